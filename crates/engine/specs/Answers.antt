@@ -1,0 +1,60 @@
+-- What each call answers and leaves in lent memory, for every input: "A refusal gives its number, zero in each number it would have answered,
+-- and changes no lent memory."
+use Prim.Native.Nat.{ℕ, zero, suc}
+use mathlib.Core.Bool.{cond}
+use mathlib.Core.List.{List, [], _∷_, _++_}
+use lib.Dec.{eqb}
+use lib.ListN.{length, drop, replicate}
+use Rattle.model.specs.declared.Head.{Head}
+use Rattle.model.specs.declared.Ask.{Ask}
+use Rattle.engine.specs.declared.Answer.{Answer}
+use Rattle.engine.specs.declared.CountRow.{CountRow}
+use Rattle.engine.specs.declared.CountAnswer.{CountAnswer}
+use Rattle.model.specs.Limits.{places}
+use Rattle.model.specs.Scale.{Rounding, down, up}
+use Rattle.model.specs.Plan.{Plan, plan-of}
+use Rattle.model.specs.MonthRule.{Row}
+use Rattle.model.specs.CountRow.{count-row}
+use Rattle.model.specs.Bounds.{lower, upper}
+use Rattle.model.specs.Refusal.{ask-refusal, count-refusal, workspace-needed}
+
+-- the answer to an ask, over the plan's row and a workspace of the given length
+unfoldable pub answer : Ask → List ℕ → ℕ → Answer
+answer a row room =
+    cond (eqb number 0)
+    (record { refusal = 0; lower = lower p (a .question); upper = upper p (a .question) })
+    (record { refusal = number; lower = 0; upper = 0 })
+  where
+    number : ℕ
+    number = ask-refusal a row room
+
+    p : Plan
+    p = plan-of (a .head) row
+
+-- the workspace after it: "After an answered question the needed part of the workspace is all zero … What lies past it is untouched in every case."
+unfoldable pub workspace-after : Ask → List ℕ → List ℕ → List ℕ
+workspace-after a row workspace =
+    cond (eqb (ask-refusal a row (length workspace)) 0) (replicate (workspace-needed a) 0 ++ drop (workspace-needed a) workspace) workspace
+
+-- a row's values at the places 0 to n − 1
+unfoldable pub tabulate : ℕ → Row → List ℕ
+tabulate zero row = []
+tabulate (suc n) row = row 0 ∷ tabulate n (λ k. row (suc k))
+
+-- "a row of 61 lower and a row of 61 upper bounds for k = 0 to 60"
+unfoldable pub count-rows : List ℕ → CountRow
+count-rows chances =
+    record { lower = tabulate places (count-row down chances); upper = tabulate places (count-row up chances) }
+
+unfoldable pub zero-rows : CountRow
+zero-rows = record { lower = replicate places 0; upper = replicate places 0 }
+
+-- the answer of the count row call
+unfoldable pub count-answer : Head → List ℕ → CountAnswer
+count-answer h row =
+    cond (eqb number 0)
+    (record { refusal = 0; row = count-rows (plan-of h row .chances) })
+    (record { refusal = number; row = zero-rows })
+  where
+    number : ℕ
+    number = count-refusal h row

@@ -1,0 +1,147 @@
+-- Laws of the refusal table: the first check that fits in two lists one after the other, and what is known of an accepted plan.
+use Prim.Native.Nat.{ℕ, zero, suc, _+_, _<_, _≤_, zero-le}
+use mathlib.Core.Path.{_≡_, refl, sym, ap, _∙_}
+use mathlib.Core.Bool.{Bool, true, false, not, _&&_, _||_, cond}
+use mathlib.Core.List.{List, [], _∷_, _++_}
+use native.Mathlib.Omega.{arith}
+use lib.Dec.{ltb, eqb}
+use lib.ListN.{length, getD, drop, length-drop}
+use lib.Seq.{length-take-le}
+use borrow.Author.Tests.{ltb-true, ltb-false, eqb-true, eqb-false, ne-eqb, not-false, lt-ltb}
+use Rattle.model.specs.declared.Head.{Head}
+use Rattle.model.specs.Limits.{max-months, max-opening, max-sizes}
+use Rattle.model.specs.Scale.{S}
+use Rattle.model.specs.Sums.{total, any, all}
+use Rattle.model.specs.Plan.{Plan, plan-of, row-length, horizon, sizes}
+use Rattle.model.specs.Refusal.{first, head-checks, length-check, tail-reachable, number-checks, plan-checks, plan-refusal, Accepted}
+
+-- The numbers of checks are not 0, so that 0 says that none of them fits; of a table this computes.
+abbrev pub numbered : List (ℕ × Bool) → Bool
+numbered checks = all (λ c. ltb 0 (c .0)) checks
+
+both : (a b : Bool) → a && b ≡ true → (a ≡ true) × (b ≡ true)
+both true b e = (refl, e)
+both false b e = (e, cc)
+
+neither : (a b : Bool) → a || b ≡ false → (a ≡ false) × (b ≡ false)
+neither true b e = (e, cc)
+neither false b e = (refl, e)
+
+-- a later check counts only where no earlier one fits
+pub first-append :
+    (xs ys : List (ℕ × Bool)) → numbered xs ≡ true → first (xs ++ ys) ≡ cond (eqb (first xs) 0) (first ys) (first xs)
+unfolding first all
+first-append [] ys e = refl
+first-append (c ∷ cs) ys e =
+    go (c .0) (c .1) (both (ltb 0 (c .0)) (numbered cs) e .0) (first-append cs ys (both (ltb 0 (c .0)) (numbered cs) e .1))
+  where
+    go :
+        (n : ℕ) (fits : Bool)
+        → ltb 0 n ≡ true
+        → first (cs ++ ys) ≡ cond (eqb (first cs) 0) (first ys) (first cs)
+        → cond fits n (first (cs ++ ys)) ≡ cond (eqb (cond fits n (first cs)) 0) (first ys) (cond fits n (first cs))
+    go n true pos later = rw (ne-eqb n 0 (λ z. omega (arith, ltb-true 0 n pos)))
+    go n false pos later = later
+
+-- where no check of two lists fits, none of either does
+none-fits-append :
+    (xs ys : List (ℕ × Bool)) → numbered xs ≡ true → first (xs ++ ys) ≡ 0 → (first xs ≡ 0) × (first ys ≡ 0)
+none-fits-append xs ys e none = go (first xs) (sym (first-append xs ys e) ∙ none)
+  where
+    go : (n : ℕ) → cond (eqb n 0) (first ys) n ≡ 0 → (n ≡ 0) × (first ys ≡ 0)
+    go zero e′ = (refl, e′)
+    go (suc n) e′ = absurd (omega (arith, rw (ne-eqb (suc n) 0 (λ z. omega arith)) at e′))
+
+pub head-numbered : (h : Head) → numbered (head-checks h) ≡ true
+unfolding all head-checks
+head-numbered h = refl
+
+-- what comes after the checks of a plan counts where the plan is accepted
+pub plan-first :
+    (h : Head) (row : List ℕ) (rest : List (ℕ × Bool))
+    → first (plan-checks h row ++ rest) ≡ cond (eqb (plan-refusal h row) 0) (first rest) (plan-refusal h row)
+unfolding all plan-refusal plan-checks head-checks length-check number-checks
+plan-first h row rest = first-append (plan-checks h row) rest refl
+
+not-zero : {n : ℕ} → (n ≡ 0 → ⊥) → 0 < n
+not-zero h = omega (arith, h)
+
+-- no check fits: not the first, and none of the others
+none-fits : (n : ℕ) (fits : Bool) (cs : List (ℕ × Bool)) → first ((suc n, fits) ∷ cs) ≡ 0 → (fits ≡ false) × (first cs ≡ 0)
+unfolding first
+none-fits n true cs e = absurd (omega (arith, e))
+none-fits n false cs e = (refl, e)
+
+-- where no number of a list is above a limit, none is, at any index
+pub none-above : (limit : ℕ) (xs : List ℕ) → any (ltb limit) xs ≡ false → (i : ℕ) → getD xs i 0 ≤ limit
+unfolding any
+none-above limit [] e i = zero-le
+none-above limit (x ∷ xs) e zero = ltb-false limit x (neither (ltb limit x) (any (ltb limit) xs) e .0)
+none-above limit (x ∷ xs) e (suc i) = none-above limit xs (neither (ltb limit x) (any (ltb limit) xs) e .1) i
+
+-- a tail that is not reachable ruins where there is one
+tail-fits : (p : Plan) → tail-reachable p ≡ false → 0 < p .tail → p .opening + horizon p ≤ sizes p + 1
+unfolding tail-reachable
+tail-fits p e some = ltb-false _ _ (sym (ap (λ t. t && ltb (sizes p + 1) (p .opening + horizon p)) (lt-ltb _ _ some)) ∙ e)
+
+-- what is known of a head that no check turns away
+pub record HeadFacts (h : Head) : Type 0 where
+  pub months-fit : h .months ≤ max-months
+  pub opening-fits : h .opening ≤ max-opening
+  pub sizes-some : 0 < h .sizes
+  pub sizes-fit : h .sizes ≤ max-sizes
+
+pub head-facts : (h : Head) → first (head-checks h) ≡ 0 → HeadFacts h
+unfolding head-checks
+head-facts h e =
+    let horizon-ok = none-fits _ _ _ e in
+    let opening-ok = none-fits _ _ _ (horizon-ok .1) in
+    let sizes-ok = neither (eqb (h .sizes) 0) _ (none-fits _ _ _ (opening-ok .1) .0) in
+    record {
+      months-fit = ltb-false _ _ (horizon-ok .0);
+      opening-fits = ltb-false _ _ (opening-ok .0);
+      sizes-some = not-zero (eqb-false _ _ (sizes-ok .0));
+      sizes-fit = ltb-false _ _ (sizes-ok .1);
+    }
+
+-- what is known of an accepted plan
+pub record Facts (h : Head) (row : List ℕ) : Type 0 where
+  pub months-fit : h .months ≤ max-months
+  pub opening-fits : h .opening ≤ max-opening
+  pub sizes-some : 0 < h .sizes
+  pub sizes-fit : h .sizes ≤ max-sizes
+  pub row-is : length row ≡ row-length h
+  pub numbers-fit : (i : ℕ) → getD row i 0 ≤ S
+  pub weights-add : total (plan-of h row .severity) + plan-of h row .tail ≡ S
+  pub tail-ruins :
+      0 < plan-of h row .tail → plan-of h row .opening + horizon (plan-of h row) ≤ sizes (plan-of h row) + 1
+
+pub facts : (h : Head) (row : List ℕ) → Accepted h row → Facts h row
+unfolding plan-refusal plan-checks length-check number-checks
+facts h row e =
+    let parts = none-fits-append (head-checks h) _ (head-numbered h) e in
+    let head = head-facts h (parts .0) in
+    let length-ok = none-fits _ _ _ (parts .1) in
+    let numbers-ok = none-fits _ _ _ (length-ok .1) in
+    let weights-ok = none-fits _ _ _ (numbers-ok .1) in
+    let tail-ok = none-fits _ _ _ (weights-ok .1) in
+    record {
+      months-fit = head .months-fit;
+      opening-fits = head .opening-fits;
+      sizes-some = head .sizes-some;
+      sizes-fit = head .sizes-fit;
+      row-is = eqb-true _ _ (not-false _ (length-ok .0));
+      numbers-fit = none-above S row (numbers-ok .0);
+      weights-add = eqb-true _ _ (not-false _ (weights-ok .0));
+      tail-ruins = tail-fits (plan-of h row) (tail-ok .0);
+    }
+
+-- the months are as many as the chances, and the sizes as many as the weights
+module _ (h : Head) (row : List ℕ) (row-is : length row ≡ row-length h) where
+  pub horizon-is : horizon (plan-of h row) ≡ h .months
+  unfolding plan-of
+  horizon-is = length-take-le _ row (omega arith)
+
+  pub sizes-is : sizes (plan-of h row) ≡ h .sizes
+  unfolding plan-of
+  sizes-is = length-take-le _ (drop (h .months) row) (simp length-drop (omega arith))

@@ -1,0 +1,13 @@
+-- The laws of the definitions. Theorems has what the other crates and the reader cite.
+pub mod SumLaws
+pub mod Facts
+pub mod Month
+pub mod Values
+pub mod Histories
+pub mod Unrounded
+pub mod Questions
+pub mod Counts
+pub mod FirstClaimLaw
+pub mod Tail
+pub mod Theorems
+pub mod Worked

@@ -1,0 +1,152 @@
+-- Laws of the month rule: what one month keeps of its rows, the rule keeps over all months, for every question.
+use mathlib.Core.Path.{_≡_, refl, sym, _∙_, ap}
+use mathlib.Core.Bool.{Bool, true, false, cond}
+use mathlib.Core.List.{List, [], _∷_}
+use mathlib.Core.Option.{Option, none, some}
+use Prim.Native.Nat.{ℕ, zero, suc, _+_, _*_, _^_, _≤_}
+use native.Mathlib.Nat.{pow-zero, mul-one, mul-add, zero-mul, zero-add, le-refl}
+use native.Mathlib.Omega.{arith}
+use lib.Dec.{leb·suc-suc, leb·zero}
+use lib.ListN.{length, getD}
+use Rattle.model.specs.declared.Question.{Question}
+use Rattle.model.specs.declared.Question.the-variants.{Survive, Both, High, Low}
+use Rattle.model.specs.Scale.{S, Rounding, down, up}
+use Rattle.model.specs.Sums.{total, count}
+use Rattle.model.specs.MonthRule.{Row, Month, Rule, month, exact-month, kept, claimed-row, month-back, values, all-placed, rule-of}
+use Rattle.model.specs.Bounds.{live-months, month-gap}
+use Rattle.model.proofs.SumLaws.{pow-two-more}
+use Rattle.model.proofs.Month.{Direction, Within, MonthFits, month-encloses, month-fits, month-gap-live, month-gap-idle}
+
+-- A relation between the values of two month rules, which may speak of the chances still to come: if it holds of 0 and of the last row, and
+-- each month keeps it, then it holds of all values.
+module _
+    (R : List ℕ → ℕ → ℕ → Type 0)
+    (m₁ m₂ : Month)
+    (q : Rule)
+    (nothing : (Ps : List ℕ) → R Ps 0 0)
+    (last : (k s : ℕ) → R [] (q .last k s) (q .last k s))
+    (month-keeps :
+    (P : ℕ) (Ps : List ℕ) → P ≤ S → (X Y X′ Y′ : Row) →
+    ((s : ℕ) → R Ps (X s) (X′ s)) → ((s : ℕ) → R Ps (Y s) (Y′ s)) →
+    (s : ℕ) → R (P ∷ Ps) (m₁ P X Y s) (m₂ P X′ Y′ s))
+  where
+    kept-rel : (Ps : List ℕ) (X X′ : Row) → ((s : ℕ) → R Ps (X s) (X′ s)) → (s : ℕ) → R Ps (kept (q .allowed) X s) (kept (q .allowed) X′ s)
+    unfolding kept
+    kept-rel Ps X X′ h s = go (q .allowed s)
+      where
+        go : (b : Bool) → R Ps (cond b (X s) 0) (cond b (X′ s) 0)
+        go true = h s
+        go false = nothing Ps
+
+    claimed-rel :
+        (Ps : List ℕ) (X X′ : ℕ → Row) → ((k s : ℕ) → R Ps (X k s) (X′ k s)) →
+        (o : Option ℕ) (s : ℕ) → R Ps (claimed-row X o s) (claimed-row X′ o s)
+    unfolding claimed-row
+    claimed-rel Ps X X′ h none s = nothing Ps
+    claimed-rel Ps X X′ h (some k) s = h k s
+
+    pub month-back-rel :
+        (P : ℕ) (Ps : List ℕ) → P ≤ S → (N N′ : ℕ → Row) → ((k s : ℕ) → R Ps (N k s) (N′ k s)) →
+        (k s : ℕ) → R (P ∷ Ps) (month-back m₁ q P N k s) (month-back m₂ q P N′ k s)
+    unfolding month-back
+    month-back-rel P Ps hP N N′ h k =
+        month-keeps P Ps hP _ _ _ _ (rows k)
+        (claimed-rel Ps (λ j. kept (q .allowed) (N j)) (λ j. kept (q .allowed) (N′ j)) rows (q .after-claim k))
+      where
+        rows : (j s : ℕ) → R Ps (kept (q .allowed) (N j) s) (kept (q .allowed) (N′ j) s)
+        rows j = kept-rel Ps (N j) (N′ j) (h j)
+
+    pub values-rel : (Ps : List ℕ) → ((i : ℕ) → getD Ps i 0 ≤ S) → (k s : ℕ) → R Ps (values m₁ q Ps k s) (values m₂ q Ps k s)
+    unfolding values
+    values-rel [] h k s = last k s
+    values-rel (P ∷ Ps) h k s =
+        month-back-rel P Ps (h 0) (values m₁ q Ps) (values m₂ q Ps) (values-rel Ps (λ i. h (suc i))) k s
+
+-- S^(2n) for the chances of n months, by recursion
+scale : List ℕ → ℕ
+scale [] = 1
+scale (P ∷ Ps) = S * (S * scale Ps)
+
+scale-is : (Ps : List ℕ) → scale Ps ≡ S ^ (2 * length Ps)
+unfolding scale
+scale-is [] = sym (pow-zero S)
+scale-is (P ∷ Ps) = rw (scale-is Ps) (sym (pow-two-more S (length Ps)))
+
+-- a rounded rule encloses the exact one
+pub values-enclose :
+    {rel : ℕ → ℕ → Type 0} {round : Rounding} (d : Direction rel round) (F : List ℕ) (q : Rule) (Ps : List ℕ) → ((i : ℕ) → getD Ps i 0 ≤ S) →
+    (k s : ℕ) → rel (values (month round F) q Ps k s * S ^ (2 * length Ps)) (values (exact-month F) q Ps k s)
+unfolding scale
+values-enclose {rel} {round} d F q Ps h k s =
+    rw (← scale-is Ps)
+    (values-rel (λ Qs a e. rel (a * scale Qs) e) (month round F) (exact-month F) q
+    (λ Qs. rw zero-mul (d .same 0))
+    (λ j i. rw mul-one (d .same (q .last j i)))
+    (λ P Qs hP X Y X′ Y′ hx hy. month-encloses d F P X Y X′ Y′ (scale Qs) hx hy)
+    Ps h k s)
+
+-- no value passes S
+pub values-fit :
+    (round : Rounding) → Within round → (F : List ℕ) → total F ≤ S → (q : Rule) → ((k s : ℕ) → q .last k s ≤ S) →
+    (Ps : List ℕ) → ((i : ℕ) → getD Ps i 0 ≤ S) → (k s : ℕ) → values (month round F) q Ps k s ≤ S
+values-fit round within F hF q hl =
+    values-rel (λ Qs a b. a ≤ S) (month round F) (month round F) q (λ Qs. omega arith) hl
+    (λ P Qs hP X Y X′ Y′ hx hy s. month-fits round within F hF P hP X Y hx hy s .value)
+
+pub live-months-idle : (Ps : List ℕ) → live-months (0 ∷ Ps) ≡ live-months Ps
+unfolding live-months count
+live-months-idle Ps = zero-add _
+
+pub live-months-live : (P : ℕ) (Ps : List ℕ) → live-months (suc P ∷ Ps) ≡ 1 + live-months Ps
+unfolding live-months count
+live-months-live P Ps = rw (leb·suc-suc 0 P, leb·zero P)
+
+-- the two bounds are apart by at most the allowance of the months with a chance above 0
+pub values-gap :
+    (F : List ℕ) → total F ≤ S → (q : Rule) (Ps : List ℕ) → ((i : ℕ) → getD Ps i 0 ≤ S) →
+    (k s : ℕ) → values (month up F) q Ps k s ≤ values (month down F) q Ps k s + month-gap * live-months Ps
+values-gap F hF q =
+    values-rel (λ Qs a b. b ≤ a + month-gap * live-months Qs) (month down F) (month up F) q
+    (λ Qs. omega arith) (λ k s. omega arith) step
+  where
+    step :
+        (P : ℕ) (Qs : List ℕ) → P ≤ S → (X Y X′ Y′ : Row) →
+        ((s : ℕ) → X′ s ≤ X s + month-gap * live-months Qs) → ((s : ℕ) → Y′ s ≤ Y s + month-gap * live-months Qs) →
+        (s : ℕ) → month up F P X′ Y′ s ≤ month down F P X Y s + month-gap * live-months (P ∷ Qs)
+    step zero Qs hP X Y X′ Y′ hx hy s = rw live-months-idle (month-gap-idle F X Y X′ Y′ (month-gap * live-months Qs) hx s)
+    step (suc P) Qs hP X Y X′ Y′ hx hy s =
+        rw live-months-live (omega (arith, month-gap-live F hF (suc P) hP X Y X′ Y′ (month-gap * live-months Qs) hx hy s))
+
+-- every question's last row holds S or 0
+pub last-fits : (q : Question) (k s : ℕ) → rule-of q .last k s ≤ S
+unfolding rule-of all-placed
+last-fits Survive k s = le-refl S
+last-fits (Both j) zero s = le-refl S
+last-fits (Both j) (suc k) s = omega arith
+last-fits (High L) k s = le-refl S
+last-fits (Low L) k s = le-refl S
+
+kept-fits : (allowed : ℕ → Bool) (X : Row) (s : ℕ) → X s ≤ S → kept allowed X s ≤ S
+unfolding kept
+kept-fits allowed X s h = go (allowed s)
+  where
+    go : (b : Bool) → cond b (X s) 0 ≤ S
+    go true = h
+    go false = omega arith
+
+claimed-fits : (X : ℕ → Row) (o : Option ℕ) (s : ℕ) → ((k : ℕ) → X k s ≤ S) → claimed-row X o s ≤ S
+unfolding claimed-row
+claimed-fits X none s h = omega arith
+claimed-fits X (some k) s h = h k
+
+-- what a month of the rule works out at a level, over the rows of the months that follow it
+pub months-fit :
+    (round : Rounding) → Within round → (F : List ℕ) → total F ≤ S → (q : Rule) → ((k s : ℕ) → q .last k s ≤ S) →
+    (P : ℕ) → P ≤ S → (Ps : List ℕ) → ((i : ℕ) → getD Ps i 0 ≤ S) → (k s : ℕ) →
+    MonthFits round F P (kept (q .allowed) (values (month round F) q Ps k))
+    (claimed-row (λ j. kept (q .allowed) (values (month round F) q Ps j)) (q .after-claim k)) s
+months-fit round within F hF q hl P hP Ps hPs k s =
+    month-fits round within F hF P hP _ _ (rows k) (λ r. claimed-fits (λ j. kept (q .allowed) (values (month round F) q Ps j)) (q .after-claim k) r (λ j. rows j r)) s
+  where
+    rows : (j r : ℕ) → kept (q .allowed) (values (month round F) q Ps j) r ≤ S
+    rows j r = kept-fits (q .allowed) (values (month round F) q Ps j) r (values-fit round within F hF q hl Ps hPs j r)

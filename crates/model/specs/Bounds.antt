@@ -1,0 +1,42 @@
+-- The two bounds of an answer, and what demand 3 says of them.
+use Prim.Native.Nat.{ℕ, _+_, _*_, _^_, _≤_}
+use mathlib.Core.List.{List}
+use lib.Dec.{ltb}
+use Rattle.model.specs.declared.Question.{Question}
+use Rattle.model.specs.Scale.{S, Rounding, down, up}
+use Rattle.model.specs.Sums.{count}
+use Rattle.model.specs.Plan.{Plan, horizon}
+use Rattle.model.specs.MonthRule.{month, value}
+use Rattle.model.specs.CountRow.{count-row}
+
+-- the month rule's answer, rounded
+unfoldable pub bound : Rounding → Plan → Question → ℕ
+bound round p q = value (month round (p .severity)) p q
+
+abbrev pub lower : Plan → Question → ℕ
+lower p q = bound down p q
+
+abbrev pub upper : Plan → Question → ℕ
+upper p q = bound up p q
+
+abbrev pub count-lower : Plan → ℕ → ℕ
+count-lower p k = count-row down (p .chances) k
+
+abbrev pub count-upper : Plan → ℕ → ℕ
+count-upper p k = count-row up (p .chances) k
+
+-- "Z is the number of months t from 1 to n with P_t above 0."
+unfoldable pub live-months : List ℕ → ℕ
+live-months chances = count (λ P. ltb 0 P) chances
+
+-- the parts of S that a month with a chance above 0 may add to the gap
+abbrev pub month-gap : ℕ
+month-gap = 2
+
+-- Demand 3 of two numbers low and high, and the weight W of the histories that keep a condition
+pub record Encloses (p : Plan) (W low high : ℕ) : Type 0 where
+  -- "Enclosure: lower × S^(2n) ≤ W × S ≤ upper × S^(2n)"
+  pub below : low * S ^ (2 * horizon p) ≤ W * S
+  pub above : W * S ≤ high * S ^ (2 * horizon p)
+  -- "Gap rule: upper ≤ lower + 2 × Z"
+  pub gap : high ≤ low + month-gap * live-months (p .chances)

@@ -1,0 +1,42 @@
+-- The exact side: which histories keep a condition, and what they weigh together. Nothing here is rounded or uses the month rule.
+use Prim.Native.Nat.{ℕ}
+use mathlib.Core.Bool.{Bool, _&&_, cond}
+use mathlib.Core.List.{List, map}
+use lib.Dec.{eqb}
+use lib.IntN.{pos}
+use Rattle.model.specs.declared.Question.{Question}
+use Rattle.model.specs.declared.Question.the-variants.{Survive, Both, High, Low}
+use Rattle.model.specs.Sums.{total, all}
+use Rattle.model.specs.Plan.{Plan, horizon, sizes}
+use Rattle.model.specs.History.{History, Surplus, known, surplus-path, at-least, at-most, claims, histories, history-weight}
+
+-- U_1 to U_n where the fund opens at u
+abbrev pub path-from : ℕ → History → List Surplus
+path-from u h = surplus-path (known (pos u)) h
+
+-- "survive: U_t ≥ 1 for t = 1 to n", as "Ruin is U_t ≤ 0 at some t from 1 on"
+unfoldable pub survives : ℕ → History → Bool
+survives u h = all (at-least 1) (path-from u h)
+
+-- the condition of each question, as its line in the list of four says it
+unfoldable pub keeps : Question → ℕ → History → Bool
+keeps Survive u h = survives u h
+keeps (Both k) u h = survives u h && eqb (claims h) k
+keeps (High L) u h = survives u h && all (at-most L) (path-from u h)
+keeps (Low L) u h = survives u h && all (at-least L) (path-from u h)
+
+-- "exactly k claims in the n months, ruin or not"
+unfoldable pub has-claims : ℕ → History → Bool
+has-claims k h = eqb (claims h) k
+
+-- "the weight of the histories that keep the condition"
+unfoldable pub weight-of : Plan → (History → Bool) → ℕ
+weight-of p condition = total (map (λ h. cond (condition h) (history-weight p h) 0) (histories (sizes p) (horizon p)))
+
+-- "W is the sum of the weights of all histories that keep it, taken from the plan's numbers alone."
+unfoldable pub exact : Plan → Question → ℕ
+exact p q = weight-of p (keeps q (p .opening))
+
+-- W at a place k of the count row
+unfoldable pub exact-count : Plan → ℕ → ℕ
+exact-count p k = weight-of p (has-claims k)

@@ -1,0 +1,65 @@
+-- "Plan row and plan bytes": the bits of a plan.
+use Prim.Native.Nat.{ℕ, zero, suc, _+_, _*_, _/_, _%_, _^_, _-_}
+use mathlib.Core.List.{List, [], _∷_, _++_, flatMap, map}
+use lib.ListN.{length, take, drop}
+use Rattle.model.specs.declared.Head.{Head}
+use Rattle.model.specs.Plan.{row-length}
+
+-- the bits of a number in a field of the given width, "most significant bit first"
+unfoldable pub bits : ℕ → ℕ → List ℕ
+bits zero x = []
+bits (suc width) x = x / 2 ^ width % 2 ∷ bits width x
+
+-- the number that bits stand for
+unfoldable pub number : List ℕ → ℕ
+number [] = 0
+number (b ∷ bs) = b * 2 ^ length bs + number bs
+
+-- "n in 7 bits, u in 8, m in 9, then the row at 31 bits a number"
+unfoldable pub head-bits : ℕ
+head-bits = 7 + 8 + 9
+
+unfoldable pub plan-bits : Head → List ℕ → List ℕ
+plan-bits h row = bits 7 (h .months) ++ bits 8 (h .opening) ++ bits 9 (h .sizes) ++ flatMap (bits 31) row
+
+-- "The length is exact": of the bits, and in bytes with the fill of the last one
+unfoldable pub bit-length : Head → ℕ
+bit-length h = head-bits + 31 * row-length h
+
+unfoldable pub byte-length : Head → ℕ
+byte-length h = (bit-length h + 7) / 8
+
+-- the bits of bytes
+unfoldable pub bits-of : List ℕ → List ℕ
+bits-of bytes = flatMap (bits 8) bytes
+
+-- the head that bytes begin with
+unfoldable pub head-of : List ℕ → Head
+head-of bytes =
+    record {
+      months = number (take 7 (bits-of bytes));
+      opening = number (take 8 (drop 7 (bits-of bytes)));
+      sizes = number (take 9 (drop 15 (bits-of bytes)));
+    }
+
+-- the first numbers of 31 bits each
+unfoldable pub numbers : ℕ → List ℕ → List ℕ
+numbers zero bs = []
+numbers (suc n) bs = number (take 31 bs) ∷ numbers n (drop 31 bs)
+
+-- the row that follows the head
+unfoldable pub row-of : List ℕ → List ℕ
+row-of bytes = numbers (row-length (head-of bytes)) (drop head-bits (bits-of bytes))
+
+-- "then zero bits to the end of the byte"
+unfoldable pub fill-of : List ℕ → List ℕ
+fill-of bytes = drop (bit-length (head-of bytes)) (bits-of bytes)
+
+-- whole bytes from bits, the last one filled with zero bits
+unfoldable pub packed : ℕ → List ℕ → List ℕ
+packed zero bs = []
+packed (suc n) bs = number (take 8 bs) * 2 ^ (8 - length (take 8 bs)) ∷ packed n (drop 8 bs)
+
+-- the bytes of a plan
+unfoldable pub bytes-of : Head → List ℕ → List ℕ
+bytes-of h row = packed (byte-length h) (plan-bits h row)

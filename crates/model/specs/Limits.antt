@@ -1,0 +1,26 @@
+-- The limits of document 01 for the definitions; src/limits.rt has them for the code, and the proofs hold the two equal.
+use Prim.Native.Nat.{ℕ, _+_}
+
+-- "months n (0 to 60)"
+abbrev pub max-months : ℕ
+max-months = 60
+
+-- "opening u (0 to 200)"
+abbrev pub max-opening : ℕ
+max-opening = 200
+
+-- "sizes m (1 to 260)"
+abbrev pub max-sizes : ℕ
+max-sizes = 260
+
+-- "both k (0 to 24)"
+abbrev pub max-claims : ℕ
+max-claims = 24
+
+-- "high L (0 to 260)", "low L (0 to 260)"
+abbrev pub max-level : ℕ
+max-level = 260
+
+-- "a row of 61 lower and a row of 61 upper bounds": one place for each number of claims from 0 to the longest plan's
+abbrev pub places : ℕ
+places = max-months + 1

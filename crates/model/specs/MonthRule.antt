@@ -1,0 +1,96 @@
+-- The month rule, with its rounding as a parameter.
+use Prim.Native.Nat.{ℕ, zero, suc, _+_, _*_, _-_, min}
+use mathlib.Core.Bool.{Bool, true, cond}
+use mathlib.Core.List.{List, [], _∷_}
+use mathlib.Core.Option.{Option, none, some}
+use lib.Dec.{leb}
+use lib.ListN.{length}
+use Rattle.model.specs.declared.Question.{Question}
+use Rattle.model.specs.declared.Question.the-variants.{Survive, Both, High, Low}
+use Rattle.model.specs.Scale.{S, Rounding}
+use Rattle.model.specs.Sums.{sum}
+use Rattle.model.specs.Plan.{Plan, nth}
+
+-- a value at each level
+abbrev pub Row : Type 0
+Row = ℕ → ℕ
+
+-- "the sum over x from 1 to the lesser of s and m of F_x × V_t(s + 1 − x)"
+unfoldable pub claim-sum : List ℕ → Row → ℕ → ℕ
+claim-sum severity next s = sum (min s (length severity)) (λ x. nth severity x * next (s + 1 - x))
+
+-- A month takes its chance, the row read where no claim comes and the row read after a claim to the row before it.
+abbrev pub Month : Type 0
+Month = ℕ → Row → Row → Row
+
+-- "A = the sum …, divided by S; V_{t-1}(s) = ((S − P_t) × V_t(s + 1) + P_t × A) divided by S"
+unfoldable pub month : Rounding → List ℕ → Month
+month round severity P quiet claimed s = round ((S - P) * quiet (s + 1) + P * round (claim-sum severity claimed s))
+
+-- the same "with rounding left out", multiplied by S × S so that it stays whole
+unfoldable pub exact-month : List ℕ → Month
+exact-month severity P quiet claimed s = (S - P) * S * quiet (s + 1) + P * claim-sum severity claimed s
+
+-- What a question chooses in the month rule. The rows are told apart by the number of claims left to place, which only both k looks at.
+pub record Rule : Type 0 where
+  -- V_n
+  pub last : ℕ → Row
+  -- the claims left after one more claim, if there may be one more
+  pub after-claim : ℕ → Option ℕ
+  -- the levels that the question does not forbid in the months 1 to n
+  pub allowed : ℕ → Bool
+
+-- "a V_t(s') whose level s' the question forbids is taken as 0"
+unfoldable pub kept : (ℕ → Bool) → Row → Row
+kept allowed row s = cond (allowed s) (row s) 0
+
+-- the row read after a claim: "a claim with none left adds 0"
+unfoldable pub claimed-row : (ℕ → Row) → Option ℕ → Row
+claimed-row rows none s = 0
+claimed-row rows (some k) s = rows k s
+
+-- the rows before a month from the rows after it
+unfoldable pub month-back : Month → Rule → ℕ → (ℕ → Row) → ℕ → Row
+month-back one-month q P next k = one-month P (rows k) (claimed-row rows (q .after-claim k))
+  where
+    rows : ℕ → Row
+    rows j = kept (q .allowed) (next j)
+
+-- V_0 by the claims left: "For t = n down to 1", each chance's month on top of the months that follow it
+unfoldable pub values : Month → Rule → List ℕ → ℕ → Row
+values one-month q [] = q .last
+values one-month q (P ∷ later) = month-back one-month q P (values one-month q later)
+
+-- "V_n(s) = S"
+abbrev pub whole : ℕ → Row
+whole k s = S
+
+-- "For both k, V_n is S with no claims left to place and 0 otherwise"
+unfoldable pub all-placed : ℕ → Row
+all-placed zero s = S
+all-placed (suc k) s = 0
+
+-- "a claim lowers it by one"
+unfoldable pub one-fewer : ℕ → Option ℕ
+one-fewer zero = none
+one-fewer (suc k) = some k
+
+abbrev pub any-level : ℕ → Bool
+any-level s = true
+
+unfoldable pub rule-of : Question → Rule
+rule-of Survive = record { last = whole; after-claim = some; allowed = any-level }
+rule-of (Both k) = record { last = all-placed; after-claim = one-fewer; allowed = any-level }
+rule-of (High L) = record { last = whole; after-claim = some; allowed = λ s. leb s L }
+rule-of (Low L) = record { last = whole; after-claim = some; allowed = λ s. leb L s }
+
+-- the claims to place at the opening
+unfoldable pub claims-of : Question → ℕ
+claims-of Survive = 0
+claims-of (Both k) = k
+claims-of (High L) = 0
+claims-of (Low L) = 0
+
+-- "The answer is V_0(u)."
+unfoldable pub value : Month → Plan → Question → ℕ
+value one-month p q = values one-month (rule-of q) (p .chances) (claims-of q) (p .opening)
