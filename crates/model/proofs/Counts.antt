@@ -1,14 +1,14 @@
 -- Laws of the count row: its months enclose the exact ones, keep within S and within the gap; without rounding it weighs the histories.
-use mathlib.Core.Path.{_≡_, refl, sym, _∙_, ap, ap₂, fun-ext}
-use mathlib.Core.Bool.{Bool, true, false, cond}
+use mathlib.Core.Path.{_≡_, refl, sym, _∙_, ap, fun-ext}
+use mathlib.Core.Bool.{true, cond}
 use mathlib.Core.List.{List, [], _∷_}
 use Prim.Native.Nat.{ℕ, zero, suc, _+_, _*_, _-_, _^_, _≤_}
-use native.Mathlib.Nat.{mul-add, add-mul, mul-assoc, mul-comm, mul-left-comm, mul-right-comm, mul-zero, zero-mul, mul-one, one-mul, add-zero, zero-add, add-comm, sub-zero, pow-zero, mul-le-mul-left, sub-add-cancel, le-refl}
+use native.Mathlib.Nat.{mul-add, add-mul, mul-assoc, mul-comm, mul-left-comm, mul-right-comm, mul-zero, zero-mul, mul-one, one-mul, zero-add, add-comm, sub-zero, pow-zero, mul-le-mul-left, le-refl}
 use native.Mathlib.Omega.{arith}
 use lib.Dec.{eqb, eqb·zero-suc, eqb·suc-zero, eqb·suc-suc}
 use lib.ListN.{length, getD}
 use Rattle.model.specs.Scale.{S, Rounding, down, up}
-use Rattle.model.specs.Sums.{sum, total, count}
+use Rattle.model.specs.Sums.{total, count}
 use Rattle.model.specs.Plan.{Plan, nth}
 use Rattle.model.specs.History.{Event, no-claim, claim, tail-claim, History, is-claim, claims}
 use Rattle.model.specs.Exact.{has-claims, exact-count}

@@ -1,7 +1,7 @@
 -- Laws of the refusal table: the first check that fits in two lists one after the other, and what is known of an accepted plan.
 use Prim.Native.Nat.{ℕ, zero, suc, _+_, _<_, _≤_, zero-le}
 use mathlib.Core.Path.{_≡_, refl, sym, ap, _∙_}
-use mathlib.Core.Bool.{Bool, true, false, not, _&&_, _||_, cond}
+use mathlib.Core.Bool.{Bool, true, false, _&&_, _||_, cond}
 use mathlib.Core.List.{List, [], _∷_, _++_}
 use native.Mathlib.Omega.{arith}
 use lib.Dec.{ltb, eqb}
@@ -44,7 +44,7 @@ first-append (c ∷ cs) ys e =
     go n false pos later = later
 
 -- where no check of two lists fits, none of either does
-none-fits-append :
+pub none-fits-append :
     (xs ys : List (ℕ × Bool)) → numbered xs ≡ true → first (xs ++ ys) ≡ 0 → (first xs ≡ 0) × (first ys ≡ 0)
 none-fits-append xs ys e none = go (first xs) (sym (first-append xs ys e) ∙ none)
   where
@@ -56,18 +56,26 @@ pub head-numbered : (h : Head) → numbered (head-checks h) ≡ true
 unfolding all head-checks
 head-numbered h = refl
 
+pub number-numbered : (h : Head) (row : List ℕ) → numbered (number-checks h row) ≡ true
+unfolding all number-checks
+number-numbered h row = refl
+
+pub plan-numbered : (h : Head) (row : List ℕ) → numbered (plan-checks h row) ≡ true
+unfolding all plan-checks head-checks length-check number-checks
+plan-numbered h row = refl
+
 -- what comes after the checks of a plan counts where the plan is accepted
 pub plan-first :
     (h : Head) (row : List ℕ) (rest : List (ℕ × Bool))
     → first (plan-checks h row ++ rest) ≡ cond (eqb (plan-refusal h row) 0) (first rest) (plan-refusal h row)
-unfolding all plan-refusal plan-checks head-checks length-check number-checks
-plan-first h row rest = first-append (plan-checks h row) rest refl
+unfolding plan-refusal
+plan-first h row rest = first-append (plan-checks h row) rest (plan-numbered h row)
 
 not-zero : {n : ℕ} → (n ≡ 0 → ⊥) → 0 < n
 not-zero h = omega (arith, h)
 
 -- no check fits: not the first, and none of the others
-none-fits : (n : ℕ) (fits : Bool) (cs : List (ℕ × Bool)) → first ((suc n, fits) ∷ cs) ≡ 0 → (fits ≡ false) × (first cs ≡ 0)
+pub none-fits : (n : ℕ) (fits : Bool) (cs : List (ℕ × Bool)) → first ((suc n, fits) ∷ cs) ≡ 0 → (fits ≡ false) × (first cs ≡ 0)
 unfolding first
 none-fits n true cs e = absurd (omega (arith, e))
 none-fits n false cs e = (refl, e)
@@ -115,6 +123,10 @@ pub record Facts (h : Head) (row : List ℕ) : Type 0 where
   pub weights-add : total (plan-of h row .severity) + plan-of h row .tail ≡ S
   pub tail-ruins :
       0 < plan-of h row .tail → plan-of h row .opening + horizon (plan-of h row) ≤ sizes (plan-of h row) + 1
+
+pub accepted-head : (h : Head) (row : List ℕ) → Accepted h row → first (head-checks h) ≡ 0
+unfolding plan-refusal plan-checks
+accepted-head h row e = none-fits-append (head-checks h) _ (head-numbered h) e .0
 
 pub facts : (h : Head) (row : List ℕ) → Accepted h row → Facts h row
 unfolding plan-refusal plan-checks length-check number-checks

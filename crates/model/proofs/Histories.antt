@@ -1,15 +1,15 @@
 -- The weight of the histories that keep a condition, with the first month split off; all histories together.
 use mathlib.Core.Path.{_≡_, refl, sym, _∙_, ap, fun-ext}
 use mathlib.Core.Bool.{Bool, true, false, cond}
-use mathlib.Core.List.{List, [], _∷_, _++_, map, map-map, map-append, flatMap, foldr, zipWith}
-use Prim.Native.Nat.{ℕ, zero, suc, _+_, _*_, _-_, _^_, _≤_}
+use mathlib.Core.List.{List, [], _∷_, map, map-map, map-append, flatMap, zipWith}
+use Prim.Native.Nat.{ℕ, suc, _+_, _*_, _-_, _^_, _≤_}
 use native.Mathlib.Nat.{mul-zero, mul-assoc, mul-add, add-mul, sub-add-cancel, add-zero, zero-add, pow-zero}
 use native.Mathlib.Numerals.{one-add}
 use native.Mathlib.Omega.{arith}
 use lib.ListN.{length, getD}
 use Rattle.model.specs.Scale.{S}
 use Rattle.model.specs.Sums.{sum, total, one-to, count}
-use Rattle.model.specs.Plan.{Plan, nth, horizon, sizes}
+use Rattle.model.specs.Plan.{Plan, nth}
 use Rattle.model.specs.History.{Event, no-claim, claim, tail-claim, History, events, histories, event-weight, history-weight, is-claim, claims}
 use Rattle.model.specs.Exact.{weight-of}
 use Rattle.model.proofs.SumLaws.{total-append, total-map-times, total-one-to, sum-times, sum-nth-times, pow-two-more}

@@ -1,9 +1,9 @@
 -- The four questions as instances: each is a test of the surplus in every month and a condition on the claims.
-use mathlib.Core.Path.{_≡_, refl, sym, _∙_, ap, ap₂, fun-ext}
+use mathlib.Core.Path.{_≡_, refl, sym, _∙_, ap, fun-ext}
 use mathlib.Core.Bool.{Bool, true, false, cond, _&&_}
 use mathlib.Core.List.{List, [], _∷_}
 use mathlib.Core.Option.{some}
-use Prim.Native.Nat.{ℕ, zero, suc, _+_, _*_, _<_}
+use Prim.Native.Nat.{ℕ, zero, suc, _*_, _<_}
 use lib.Dec.{leb, eqb, eqb·zero-suc, eqb·suc-zero, eqb·suc-suc}
 use lib.IntN.{pos}
 use borrow.Author.Tests.{le-leb}
@@ -14,7 +14,7 @@ use Rattle.model.specs.Sums.{all, count}
 use Rattle.model.specs.Plan.{Plan}
 use Rattle.model.specs.History.{claim, History, Surplus, known, at-least, at-most, is-claim, claims}
 use Rattle.model.specs.Exact.{path-from, survives, keeps, exact}
-use Rattle.model.specs.MonthRule.{Rule, exact-month, values, value, whole, all-placed, one-fewer, any-level, rule-of, claims-of}
+use Rattle.model.specs.MonthRule.{exact-month, value, whole, all-placed, one-fewer, any-level, rule-of, claims-of}
 use Rattle.model.proofs.Histories.{weight-is, claims-quiet, claims-more}
 use Rattle.model.proofs.Unrounded.{holds, left, Reads, unrounded}
 

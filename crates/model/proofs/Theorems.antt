@@ -1,5 +1,5 @@
 -- The laws of demands 2 and 3, of every accepted plan: what the other crates cite, and what docs/CLAIMS.md names.
-use mathlib.Core.Path.{_≡_, refl, sym, _∙_, ap}
+use mathlib.Core.Path.{_≡_, sym, _∙_}
 use mathlib.Core.Bool.{true, false}
 use mathlib.Core.List.{List, [], _∷_, _++_}
 use Prim.Native.Nat.{ℕ, zero, suc, _+_, _*_, _-_, _^_, _≤_, _<_}
@@ -12,7 +12,7 @@ use borrow.Author.Tests.{le-leb}
 use Rattle.model.specs.declared.Head.{Head}
 use Rattle.model.specs.declared.Question.{Question}
 use Rattle.model.specs.declared.Question.the-variants.{Survive}
-use Rattle.model.specs.Scale.{S, Rounding, down, up}
+use Rattle.model.specs.Scale.{S, Rounding}
 use Rattle.model.specs.Sums.{product, total}
 use Rattle.model.specs.Plan.{Plan, plan-of, horizon, sizes, nth}
 use Rattle.model.specs.History.{History, claim, known, at-most}
@@ -22,8 +22,8 @@ use Rattle.model.specs.CountRow.{count-row, exact-count-month, counted, 
 use Rattle.model.specs.FirstClaim.{some-claim, first-claim-survival}
 use Rattle.model.specs.Bounds.{bound, lower, upper, count-lower, count-upper, Encloses}
 use Rattle.model.specs.Refusal.{Accepted}
-use Rattle.model.proofs.Facts.{Facts, facts}
-use Rattle.model.proofs.Month.{Direction, downwards, upwards, Within, down-within, up-within, MonthFits, month-fits}
+use Rattle.model.proofs.Facts.{facts}
+use Rattle.model.proofs.Month.{downwards, upwards, Within, MonthFits}
 use Rattle.model.proofs.Values.{values-enclose, values-fit, values-gap, last-fits, months-fit}
 use Rattle.model.proofs.Histories.{weight-is, weigh-all}
 use Rattle.model.proofs.Questions.{unrounded-is-exact}
@@ -41,104 +41,106 @@ take-fits B (suc n) [] h i = omega arith
 take-fits B (suc n) (x ∷ xs) h zero = h 0
 take-fits B (suc n) (x ∷ xs) h (suc i) = take-fits B n xs (λ j. h (suc j)) i
 
-positive : (n : ℕ) → 0 < S ^ n
-unfolding S
-positive n = one-le-pow n S (omega arith)
-
 scale-positive : 0 < S
 unfolding S
 scale-positive = omega arith
 
+positive : (n : ℕ) → 0 < S ^ n
+positive n = one-le-pow n S scale-positive
+
 module _ (h : Head) (row : List ℕ) (accepted : Accepted h row) where
-  chances-fit : (i : ℕ) → getD (plan-of h row .chances) i 0 ≤ S
+  abbrev p : Plan
+  p = plan-of h row
+
+  chances-fit : (i : ℕ) → getD (p .chances) i 0 ≤ S
   unfolding plan-of
   chances-fit = take-fits S (h .months) row (facts h row accepted .numbers-fit)
 
-  chance-fits : (t : ℕ) → nth (plan-of h row .chances) t ≤ S
+  chance-fits : (t : ℕ) → nth (p .chances) t ≤ S
   unfolding nth
   chance-fits zero = omega arith
   chance-fits (suc i) = chances-fit i
 
-  severity-fits : total (plan-of h row .severity) ≤ S
+  severity-fits : total (p .severity) ≤ S
   severity-fits = omega (arith, facts h row accepted .weights-add)
 
   -- Demand 2: unrounded, the month rule is W, the weight of the histories that keep the question's condition …
-  pub unrounded : (q : Question) → value (exact-month (plan-of h row .severity)) (plan-of h row) q ≡ exact (plan-of h row) q * S
-  unrounded q = unrounded-is-exact (plan-of h row) q
+  pub unrounded : (q : Question) → value (exact-month (p .severity)) p q ≡ exact p q * S
+  unrounded q = unrounded-is-exact p q
 
   -- … so is each place of the count row …
-  pub unrounded-count : (k : ℕ) → counted exact-count-month (plan-of h row .chances) no-months k ≡ exact-count (plan-of h row) k * S
-  unrounded-count k = unrounded-count-is-exact (plan-of h row) (facts h row accepted .weights-add) k
+  pub unrounded-count : (k : ℕ) → counted exact-count-month (p .chances) no-months k ≡ exact-count p k * S
+  unrounded-count k = unrounded-count-is-exact p (facts h row accepted .weights-add) k
 
   -- … and survival is the published first-claim recursion.
-  pub survival-is-first-claim : exact (plan-of h row) Survive ≡ first-claim-survival (plan-of h row)
+  pub survival-is-first-claim : exact p Survive ≡ first-claim-survival p
   survival-is-first-claim =
-      eq-of-mul-eq-mul-right S scale-positive (exact (plan-of h row) Survive) (first-claim-survival (plan-of h row))
-      (sym (unrounded Survive) ∙ unrounded-is-first-claim (plan-of h row) chances-fit)
+      eq-of-mul-eq-mul-right S scale-positive (exact p Survive) (first-claim-survival p)
+      (sym (unrounded Survive) ∙ unrounded-is-first-claim p chances-fit)
 
   -- the recursion's last term, 1 less the sum over first-claim months, is the product of the no-claim chances
   pub last-term :
-      S ^ (2 * horizon (plan-of h row)) - some-claim (plan-of h row .chances)
-      ≡ S ^ horizon (plan-of h row) * product (horizon (plan-of h row)) (λ i. S - nth (plan-of h row .chances) i)
-  last-term = no-claim-is (plan-of h row .chances) chances-fit
+      S ^ (2 * horizon p) - some-claim (p .chances)
+      ≡ S ^ horizon p * product (horizon p) (λ i. S - nth (p .chances) i)
+  last-term = no-claim-is (p .chances) chances-fit
 
   -- Demand 3, of the definitions: enclosure and gap for every question and every place of the count row
   pub enclosure :
-      (q : Question) → Encloses (plan-of h row) (exact (plan-of h row) q) (lower (plan-of h row) q) (upper (plan-of h row) q)
+      (q : Question) → Encloses p (exact p q) (lower p q) (upper p q)
   unfolding bound value
   enclosure q =
       record {
-        below = rw (← unrounded q) (values-enclose downwards (plan-of h row .severity) (rule-of q) (plan-of h row .chances) chances-fit (claims-of q) (plan-of h row .opening));
-        above = rw (← unrounded q) (values-enclose upwards (plan-of h row .severity) (rule-of q) (plan-of h row .chances) chances-fit (claims-of q) (plan-of h row .opening));
-        gap = values-gap (plan-of h row .severity) severity-fits (rule-of q) (plan-of h row .chances) chances-fit (claims-of q) (plan-of h row .opening);
+        below = rw (← unrounded q) (values-enclose downwards (p .severity) (rule-of q) (p .chances) chances-fit (claims-of q) (p .opening));
+        above = rw (← unrounded q) (values-enclose upwards (p .severity) (rule-of q) (p .chances) chances-fit (claims-of q) (p .opening));
+        gap = values-gap (p .severity) severity-fits (rule-of q) (p .chances) chances-fit (claims-of q) (p .opening);
       }
 
   pub count-enclosure :
-      (k : ℕ) → Encloses (plan-of h row) (exact-count (plan-of h row) k) (count-lower (plan-of h row) k) (count-upper (plan-of h row) k)
+      (k : ℕ) → Encloses p (exact-count p k) (count-lower p k) (count-upper p k)
   count-enclosure k =
       record {
-        below = rw (← unrounded-count k) (count-row-encloses downwards (plan-of h row .chances) k);
-        above = rw (← unrounded-count k) (count-row-encloses upwards (plan-of h row .chances) k);
-        gap = count-row-gap (plan-of h row .chances) chances-fit k;
+        below = rw (← unrounded-count k) (count-row-encloses downwards (p .chances) k);
+        above = rw (← unrounded-count k) (count-row-encloses upwards (p .chances) k);
+        gap = count-row-gap (p .chances) chances-fit k;
       }
 
   -- "All histories together weigh S^(2n)."
-  pub all-histories : weight-of (plan-of h row) (λ _. true) ≡ S ^ (2 * horizon (plan-of h row))
+  pub all-histories : weight-of p (λ _. true) ≡ S ^ (2 * horizon p)
   all-histories =
-      weight-is (plan-of h row) (λ _. true)
-      ∙ weigh-all (plan-of h row .severity) (plan-of h row .tail) (facts h row accepted .weights-add) (plan-of h row .chances) chances-fit
+      weight-is p (λ _. true)
+      ∙ weigh-all (p .severity) (p .tail) (facts h row accepted .weights-add) (p .chances) chances-fit
 
   -- "An over claim must always ruin": so does a claim of any size above m, in any month of any history, where over is above 0.
   pub tail-claim-ruins :
-      0 < plan-of h row .tail → (x : ℕ) → sizes (plan-of h row) < x →
-      (before after : History) → length (before ++ claim x ∷ after) ≡ horizon (plan-of h row) →
-      survives (plan-of h row .opening) (before ++ claim x ∷ after) ≡ false
+      0 < p .tail → (x : ℕ) → sizes p < x →
+      (before after : History) → length (before ++ claim x ∷ after) ≡ horizon p →
+      survives (p .opening) (before ++ claim x ∷ after) ≡ false
   unfolding survives at-most
   tail-claim-ruins some x large before after months =
       ruins u x (known (pos u)) (le-leb u u (le-refl u)) before after
       (omega (arith, facts h row accepted .tail-ruins some, months, length-append before (claim x ∷ after)))
     where
       u : ℕ
-      u = plan-of h row .opening
+      u = p .opening
 
   -- every bound is at most S, and the lower is at most the upper
-  pub bound-fits : (round : Rounding) → Within round → (q : Question) → bound round (plan-of h row) q ≤ S
+  pub bound-fits : (round : Rounding) → Within round → (q : Question) → bound round p q ≤ S
   unfolding bound value
   bound-fits round within q =
-      values-fit round within (plan-of h row .severity) severity-fits (rule-of q) (last-fits q) (plan-of h row .chances) chances-fit (claims-of q) (plan-of h row .opening)
+      values-fit round within (p .severity) severity-fits (rule-of q) (last-fits q) (p .chances) chances-fit (claims-of q) (p .opening)
 
-  pub count-fits : (round : Rounding) → Within round → (k : ℕ) → count-row round (plan-of h row .chances) k ≤ S
-  count-fits round within k = count-row-fits round within (plan-of h row .chances) chances-fit k
+  pub count-fits : (round : Rounding) → Within round → (k : ℕ) → count-row round (p .chances) k ≤ S
+  count-fits round within k = count-row-fits round within (p .chances) chances-fit k
 
   -- what a month works out at a level, for month t and k claims left: nothing passes S × S, and S × S + (S − 1) is below 2^60 + 2^30 (`limit`)
   pub month-limits :
       (round : Rounding) → Within round → (q : Question) (t k s : ℕ) →
-      MonthFits round (plan-of h row .severity) (nth (plan-of h row .chances) t)
-      (rows-after round (plan-of h row) q t k)
-      (claimed-row (rows-after round (plan-of h row) q t) (rule-of q .after-claim k)) s
+      MonthFits round (p .severity) (nth (p .chances) t)
+      (rows-after round p q t k)
+      (claimed-row (rows-after round p q t) (rule-of q .after-claim k)) s
   month-limits round within q t k s =
-      months-fit round within (plan-of h row .severity) severity-fits (rule-of q) (last-fits q) (nth (plan-of h row .chances) t) (chance-fits t)
-      (drop t (plan-of h row .chances)) (λ i. rw getD-drop (chances-fit (t + i))) k s
+      months-fit round within (p .severity) severity-fits (rule-of q) (last-fits q) (nth (p .chances) t) (chance-fits t)
+      (drop t (p .chances)) (λ i. rw getD-drop (chances-fit (t + i))) k s
 
 -- the lower bound is at most the upper one
 pub ordered : {p : Plan} {W low high : ℕ} → Encloses p W low high → low ≤ high

@@ -1,22 +1,22 @@
 -- The unrounded month rule is the weight of the histories that keep the condition: once for all questions, from what a question asks of the
 -- surplus in each month and of the number of claims.
-use mathlib.Core.Path.{_≡_, refl, sym, _∙_, ap, fun-ext}
+use mathlib.Core.Path.{_≡_, refl, _∙_, fun-ext}
 use mathlib.Core.Bool.{Bool, true, false, cond, _&&_}
 use mathlib.Core.List.{List, [], _∷_}
 use mathlib.Core.Option.{Option, none, some}
-use Prim.Native.Nat.{ℕ, zero, suc, _+_, _*_, _-_, _≤_, _<_, min}
+use Prim.Native.Nat.{ℕ, suc, _+_, _*_, _-_, _≤_, _<_, min}
 use native.Mathlib.Nat.{zero-mul, mul-zero, mul-assoc, add-mul, one-mul, zero-add}
 use native.Mathlib.Omega.{arith}
-use lib.Dec.{leb, ltb}
-use lib.IntN.{ℤ, pos, negsuc}
+use lib.Dec.{ltb}
+use lib.IntN.{pos, negsuc}
 use lib.ListN.{length}
 use borrow.Author.Tests.{lt-leb, le-ltb}
 use Rattle.model.specs.Scale.{S}
 use Rattle.model.specs.Sums.{sum, all}
 use Rattle.model.specs.Plan.{nth}
-use Rattle.model.specs.History.{Event, no-claim, claim, tail-claim, History, Surplus, known, lost, next-surplus, surplus-path, at-least}
+use Rattle.model.specs.History.{no-claim, claim, tail-claim, History, Surplus, known, lost, next-surplus, surplus-path, at-least}
 use Rattle.model.specs.Exact.{path-from}
-use Rattle.model.specs.MonthRule.{Row, Rule, claim-sum, exact-month, kept, claimed-row, month-back, values}
+use Rattle.model.specs.MonthRule.{Rule, claim-sum, exact-month, kept, claimed-row, month-back, values}
 use Rattle.model.proofs.SumLaws.{sum-cut, sum-ext}
 use Rattle.model.proofs.Month.{claim-sum-times}
 use Rattle.model.proofs.Histories.{weigh, weigh-end, weigh-split, weigh-none}

@@ -1,10 +1,10 @@
 -- Laws of the month rule: what one month keeps of its rows, the rule keeps over all months, for every question.
-use mathlib.Core.Path.{_≡_, refl, sym, _∙_, ap}
+use mathlib.Core.Path.{_≡_, sym}
 use mathlib.Core.Bool.{Bool, true, false, cond}
 use mathlib.Core.List.{List, [], _∷_}
 use mathlib.Core.Option.{Option, none, some}
 use Prim.Native.Nat.{ℕ, zero, suc, _+_, _*_, _^_, _≤_}
-use native.Mathlib.Nat.{pow-zero, mul-one, mul-add, zero-mul, zero-add, le-refl}
+use native.Mathlib.Nat.{pow-zero, mul-one, zero-mul, zero-add, le-refl}
 use native.Mathlib.Omega.{arith}
 use lib.Dec.{leb·suc-suc, leb·zero}
 use lib.ListN.{length, getD}

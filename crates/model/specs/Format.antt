@@ -1,7 +1,7 @@
 -- "Plan row and plan bytes": the bits of a plan.
 use Prim.Native.Nat.{ℕ, zero, suc, _+_, _*_, _/_, _%_, _^_, _-_}
-use mathlib.Core.List.{List, [], _∷_, _++_, flatMap, map}
-use lib.ListN.{length, take, drop}
+use mathlib.Core.List.{List, [], _∷_, _++_, flatMap}
+use lib.ListN.{length, take, drop, replicate}
 use Rattle.model.specs.declared.Head.{Head}
 use Rattle.model.specs.Plan.{row-length}
 
@@ -42,24 +42,23 @@ head-of bytes =
       sizes = number (take 9 (drop 15 (bits-of bytes)));
     }
 
--- the first numbers of 31 bits each
-unfoldable pub numbers : ℕ → List ℕ → List ℕ
-numbers zero bs = []
-numbers (suc n) bs = number (take 31 bs) ∷ numbers n (drop 31 bs)
+-- the first numbers that stand in fields of the given width
+unfoldable pub fields : ℕ → ℕ → List ℕ → List ℕ
+fields width zero bs = []
+fields width (suc n) bs = number (take width bs) ∷ fields width n (drop width bs)
 
 -- the row that follows the head
 unfoldable pub row-of : List ℕ → List ℕ
-row-of bytes = numbers (row-length (head-of bytes)) (drop head-bits (bits-of bytes))
+row-of bytes = fields 31 (row-length (head-of bytes)) (drop head-bits (bits-of bytes))
 
--- "then zero bits to the end of the byte"
+-- the bits that follow the row
 unfoldable pub fill-of : List ℕ → List ℕ
 fill-of bytes = drop (bit-length (head-of bytes)) (bits-of bytes)
 
--- whole bytes from bits, the last one filled with zero bits
-unfoldable pub packed : ℕ → List ℕ → List ℕ
-packed zero bs = []
-packed (suc n) bs = number (take 8 bs) * 2 ^ (8 - length (take 8 bs)) ∷ packed n (drop 8 bs)
+-- a plan's bits, "then zero bits to the end of the byte"
+unfoldable pub filled-bits : Head → List ℕ → List ℕ
+filled-bits h row = plan-bits h row ++ replicate (8 * byte-length h - bit-length h) 0
 
 -- the bytes of a plan
 unfoldable pub bytes-of : Head → List ℕ → List ℕ
-bytes-of h row = packed (byte-length h) (plan-bits h row)
+bytes-of h row = fields 8 (byte-length h) (filled-bits h row)

@@ -1,12 +1,12 @@
 -- Claim histories, from the plan's numbers alone: their weights and the surplus of the fund.
-use Prim.Native.Nat.{ℕ, zero, suc, _+_, _*_, _-_}
+use Prim.Native.Nat.{ℕ, zero, suc, _*_, _-_}
 use mathlib.Core.Bool.{Bool, true, false}
 use mathlib.Core.List.{List, [], _∷_, map, flatMap, foldr, zipWith}
 use lib.Dec.{leb}
 use lib.IntN.{ℤ, pos, negsuc, _+ℤ_, _-ℤ_}
 use Rattle.model.specs.Scale.{S}
 use Rattle.model.specs.Sums.{one-to, count}
-use Rattle.model.specs.Plan.{Plan, nth, horizon, sizes}
+use Rattle.model.specs.Plan.{Plan, nth}
 
 -- "A history gives each month no claim, one size, or over": `tail-claim` is the over claim.
 pub data Event : Type 0 where

@@ -1,6 +1,6 @@
 -- The refusal of a plan, test by test: what the function's tests say, put together as the table does.
 use Prim.Native.Nat.{ℕ, _+_}
-use mathlib.Core.Path.{_≡_, refl, sym, ap, _∙_}
+use mathlib.Core.Path.{_≡_, sym, ap, _∙_}
 use mathlib.Core.Bool.{true, false, not, _&&_, cond}
 use mathlib.Core.List.{List, _∷_}
 use native.Mathlib.Omega.{arith}
@@ -41,7 +41,7 @@ module _ (h : Head) (row : List ℕ) where
     by-length differs = by-row ∙ rw (ne-eqb _ _ differs)
 
     module _ (row-is : length row ≡ row-length h) where
-      by-numbers : plan-refusal h row ≡ first (number-checks h row)
+      pub by-numbers : plan-refusal h row ≡ first (number-checks h row)
       unfolding first length-check
       by-numbers = by-row ∙ rw (eq-eqb _ _ row-is)
 

@@ -1,3 +1,3 @@
 -- What the proofs of more than one function use.
 mod Rows
-mod Checks
+pub mod Checks

@@ -1,0 +1,8 @@
+-- The laws of plan bytes. Theorems has what the reader and other crates cite.
+pub mod Fields
+pub mod PlanBits
+pub mod Refusals
+pub mod Answered
+pub mod RoundTrip
+pub mod Theorems
+pub mod Worked

@@ -1,0 +1,111 @@
+-- The bits of a plan: how many there are, and which stands at a position.
+use Prim.Native.Nat.{ℕ, zero, suc, _*_, _-_, _/_, _%_, _^_, _<_, _≤_}
+use mathlib.Core.Path.{_≡_, refl, _∙_}
+use mathlib.Core.List.{List, [], _∷_, _++_, flatMap, append-assoc}
+use native.Mathlib.Nat.{zero-div}
+use native.Mathlib.Omega.{arith}
+use lib.Dec.{lit<}
+use lib.ListN.{length, getD, replicate, List·getD-eq-default, length-append, length-replicate}
+use Rattle.model.specs.declared.Head.{Head}
+use Rattle.model.specs.Limits.{max-months, max-sizes}
+use Rattle.model.specs.Plan.{row-length}
+use Rattle.model.specs.Format.{bits, head-bits, plan-bits, bits-of, bit-length, byte-length, head-of, fill-of, filled-bits}
+use Rattle.codec.proofs.Fields.{Bits, bits-bits, bits-flat, bits-append, bits-drop}
+use Rattle.codec.proofs.Fields.{length-bits, length-flat, field-digit, after-field, flat-digit}
+
+-- the fields one after the other
+pub plan-fields :
+    (h : Head) (row : List ℕ)
+    → plan-bits h row ≡ bits 7 (h .months) ++ (bits 8 (h .opening) ++ (bits 9 (h .sizes) ++ flatMap (bits 31) row))
+unfolding plan-bits
+plan-fields h row = simp append-assoc
+
+module _ (h : Head) (row : List ℕ) (row-is : length row ≡ row-length h) where
+  pub length-plan : length (plan-bits h row) ≡ bit-length h
+  unfolding plan-bits bit-length head-bits
+  length-plan = simp (length-append, length-bits, length-flat) (omega arith)
+
+  pub length-filled : length (filled-bits h row) ≡ 8 * byte-length h
+  unfolding filled-bits byte-length
+  length-filled = rw (length-append, length-replicate, length-plan) (omega arith)
+
+-- the bit at a position, by the field that holds it
+module _ (h : Head) (row : List ℕ) (at : ℕ) where
+  pub months-bit : at < 7 → getD (plan-bits h row) at 0 ≡ h .months / 2 ^ (6 - at) % 2
+  months-bit inside = rw (plan-fields h row) (field-digit 7 _ _ at inside)
+
+  module _ (after-months : 7 ≤ at) where
+    pub opening-bit : at - 7 < 8 → getD (plan-bits h row) at 0 ≡ h .opening / 2 ^ (7 - (at - 7)) % 2
+    opening-bit inside = rw (plan-fields h row) (after-field 7 _ _ at after-months ∙ field-digit 8 _ _ (at - 7) inside)
+
+    module _ (after-opening : 8 ≤ at - 7) where
+      pub sizes-bit : at - 7 - 8 < 9 → getD (plan-bits h row) at 0 ≡ h .sizes / 2 ^ (8 - (at - 7 - 8)) % 2
+      sizes-bit inside =
+          rw (plan-fields h row)
+          (after-field 7 _ _ at after-months ∙ after-field 8 _ _ (at - 7) after-opening ∙ field-digit 9 _ _ (at - 7 - 8) inside)
+
+      pub number-bit :
+          9 ≤ at - 7 - 8
+          → getD (plan-bits h row) at 0
+          ≡ getD row ((at - 7 - 8 - 9) / 31) 0 / 2 ^ (30 - (at - 7 - 8 - 9) % 31) % 2
+      number-bit after-head =
+          rw (plan-fields h row)
+          (after-field 7 _ _ at after-months
+          ∙ after-field 8 _ _ (at - 7) after-opening
+          ∙ after-field 9 _ _ (at - 7 - 8) after-head
+          ∙ flat-digit 31 row (at - 7 - 8 - 9) (lit< tt))
+
+      pub no-bit : 9 ≤ at - 7 - 8 → length row ≤ (at - 7 - 8 - 9) / 31 → getD (plan-bits h row) at 0 ≡ 0
+      no-bit after-head past =
+          number-bit after-head ∙ rw (List·getD-eq-default row 0 past, zero-div (2 ^ (30 - (at - 7 - 8 - 9) % 31)))
+
+-- the bits of bytes
+pub length-bits-of : (bytes : List ℕ) → length (bits-of bytes) ≡ 8 * length bytes
+unfolding bits-of
+length-bits-of bytes = length-flat 8 bytes
+
+pub bits-bits-of : (bytes : List ℕ) → Bits (bits-of bytes)
+unfolding bits-of
+bits-bits-of bytes = bits-flat 8 bytes (lit< tt)
+
+pub bits-fill-of : (bytes : List ℕ) → Bits (fill-of bytes)
+unfolding fill-of
+bits-fill-of bytes = bits-drop (bit-length (head-of bytes)) (bits-of bytes) (bits-bits-of bytes)
+
+-- past the end of a list stand zeros already
+pub getD-zeros : (xs : List ℕ) (n i : ℕ) → getD (xs ++ replicate n 0) i 0 ≡ getD xs i 0
+getD-zeros [] n i = zeros n i
+  where
+    zeros : (n i : ℕ) → getD {A = ℕ} (replicate n 0) i 0 ≡ 0
+    zeros zero i = refl
+    zeros (suc n) zero = refl
+    zeros (suc n) (suc i) = zeros n i
+getD-zeros (x ∷ xs) n zero = refl
+getD-zeros (x ∷ xs) n (suc i) = getD-zeros xs n i
+
+pub bits-plan : (h : Head) (row : List ℕ) → Bits (plan-bits h row)
+unfolding plan-bits
+bits-plan h row =
+    bits-append (bits-append (bits-append (bits-bits 7 _) (bits-bits 8 _)) (bits-bits 9 _)) (bits-flat 31 row (lit< tt))
+
+-- the fill is of zeros
+module _ (h : Head) (row : List ℕ) where
+  pub filled-at : (i : ℕ) → getD (filled-bits h row) i 0 ≡ getD (plan-bits h row) i 0
+  unfolding filled-bits
+  filled-at i = getD-zeros (plan-bits h row) (8 * byte-length h - bit-length h) i
+
+  pub bits-filled : Bits (filled-bits h row)
+  bits-filled = record { bit = λ i. rw (filled-at i) (bits-plan h row .bit i) }
+
+-- "The longest plan is 1,247 bytes."
+abbrev pub longest : ℕ
+longest = 1247
+
+pub byte-length-fits : (h : Head) → h .months ≤ max-months → h .sizes ≤ max-sizes → byte-length h ≤ longest
+unfolding byte-length bit-length head-bits
+byte-length-fits h months sizes = omega arith
+
+-- and the largest plan has that many
+pub byte-length-largest : (u : ℕ) → byte-length (record { months = max-months; opening = u; sizes = max-sizes }) ≡ longest
+unfolding byte-length bit-length head-bits
+byte-length-largest u = refl

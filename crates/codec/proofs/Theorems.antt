@@ -1,0 +1,97 @@
+-- The round trips of the two calls, of what their contracts say that they answer and leave.
+use Prim.Native.Nat.{ℕ, _^_, _<_, _≤_}
+use mathlib.Core.Path.{_≡_, sym, ap, ap₂, _∙_}
+use mathlib.Core.List.{List, _++_}
+use native.Mathlib.Omega.{arith}
+use borrow.Author.Tests.{le-ltb}
+use lib.ListN.{length, getD, take, drop}
+use lib.Seq.{take-at}
+use Rattle.model.specs.declared.Head.{Head}
+use Rattle.model.specs.Plan.{row-length}
+use Rattle.model.specs.Format.{byte-length, bytes-of, head-of, row-of}
+use Rattle.model.specs.Refusal.{Accepted, read-refusal, write-refusal}
+use Rattle.codec.specs.Answers.{read-answer, row-after, write-answer, bytes-after}
+use Rattle.codec.proofs.Refusals.{Readable, readable, accepts, row-is, written, write-room}
+use Rattle.codec.proofs.Answered.{read-as, written-as, reads, reads-row, read-number, writes, writes-bytes, write-number}
+use Rattle.codec.proofs.RoundTrip.{length-back, head-back, row-back, readable-back, bytes-back}
+
+-- What is written reads back the same head and row: a plan is written into `lent` bytes, and what is written is read into an `other` row.
+module _
+    (h : Head)
+    (row lent other : List ℕ)
+    (done : write-answer h row (length lent) .refusal ≡ 0)
+    (fits : row-length h ≤ length other)
+  where
+    none : write-refusal h row (length lent) ≡ 0
+    none = sym (write-number h row (length lent)) ∙ done
+
+    accepted : Accepted h row
+    accepted = written h row (length lent) none .0
+
+    abbrev filled : List ℕ
+    filled = take (write-answer h row (length lent) .length) (bytes-after h row lent)
+
+    filled-is : filled ≡ bytes-of h row
+    filled-is =
+        ap₂ (λ n l. take n l) (ap (λ a. a .length) (writes h row (length lent) none)) (writes-bytes h row lent none)
+        ∙ take-at (bytes-of h row) _ (byte-length h) (length-back h row accepted)
+
+    read-none : read-refusal (bytes-of h row) (length other) ≡ 0
+    read-none = accepts (bytes-of h row) (length other) (readable-back h row accepted (length other) fits)
+
+    pub same-head : read-answer filled (length other) ≡ read-as 0 h
+    same-head =
+        ap (λ l. read-answer l (length other)) filled-is
+        ∙ reads (bytes-of h row) (length other) read-none
+        ∙ ap (read-as 0) (head-back h row accepted)
+
+    pub same-row : row-after filled other ≡ row ++ drop (row-length h) other
+    same-row =
+        ap (λ l. row-after l other) filled-is
+        ∙ reads-row (bytes-of h row) other read-none
+        ∙ ap₂ (λ l h′. l ++ drop (row-length h′) other) (row-back h row accepted) (head-back h row accepted)
+
+-- Every byte string that reading accepts is written back the same, byte for byte: bytes are read into a `lent` row, and the plan that is
+-- read is written into `other` bytes.
+module _
+    (bytes lent other : List ℕ)
+    (are-bytes : (i : ℕ) → getD bytes i 0 < 2 ^ 8)
+    (done : read-answer bytes (length lent) .refusal ≡ 0)
+    (fits : length bytes ≤ length other)
+  where
+    none-wrong : read-refusal bytes (length lent) ≡ 0
+    none-wrong = sym (read-number bytes (length lent)) ∙ done
+
+    known : Readable bytes (length lent)
+    known = readable bytes (length lent) none-wrong
+
+    abbrev head : Head
+    head = read-answer bytes (length lent) .head
+
+    abbrev row-read : List ℕ
+    row-read = take (row-length head) (row-after bytes lent)
+
+    head-is : head ≡ head-of bytes
+    head-is = ap (λ a. a .head) (reads bytes (length lent) none-wrong)
+
+    row-read-is : row-read ≡ row-of bytes
+    row-read-is =
+        ap₂ (λ n l. take n l) (ap row-length head-is) (reads-row bytes lent none-wrong)
+        ∙ take-at (row-of bytes) _ (row-length (head-of bytes)) (row-is bytes)
+
+    write-none : write-refusal (head-of bytes) (row-of bytes) (length other) ≡ 0
+    write-none =
+        write-room (head-of bytes) (row-of bytes) (length other) (known .accepted)
+        ∙ rw (le-ltb (length other) (byte-length (head-of bytes)) (omega (arith, known .length-is)))
+
+    pub same-length : write-answer head row-read (length other) ≡ written-as 0 (length bytes)
+    same-length =
+        ap₂ (λ h l. write-answer h l (length other)) head-is row-read-is
+        ∙ writes (head-of bytes) (row-of bytes) (length other) write-none
+        ∙ ap (written-as 0) (sym (known .length-is))
+
+    pub same-bytes : bytes-after head row-read other ≡ bytes ++ drop (length bytes) other
+    same-bytes =
+        ap₂ (λ h l. bytes-after h l other) head-is row-read-is
+        ∙ writes-bytes (head-of bytes) (row-of bytes) other write-none
+        ∙ ap₂ (λ l n. l ++ drop n other) (bytes-back bytes (length lent) are-bytes known) (sym (known .length-is))

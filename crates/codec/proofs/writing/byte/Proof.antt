@@ -1,0 +1,102 @@
+-- `codec::writing::byte` meets its contract, as `codec::bits::field` does: the number is that of the byte's bits so far.
+use Prim.Native.Nat.{ℕ, _+_, _*_, _-_, _^_, _<_, _≤_}
+use mathlib.Core.Path.{_≡_, refl, sym, _∙_}
+use mathlib.Core.List.{List}
+use native.Mathlib.Omega.{arith}
+use borrow.Author.Needs.{needs}
+use lib.Dec.{lit≤}
+use lib.ListN.{length, getD, take, drop}
+use Rattle.model.specs.Format.{number, filled-bits}
+use Rattle.model.proofs.Facts.{Facts, facts}
+use Rattle.codec.proofs.Fields.{field-next, field-fits, number-fits}
+use Rattle.codec.proofs.PlanBits.{length-filled, filled-at, bits-filled, byte-length-fits}
+use Rattle.codec.proofs.writing.byte.Statement.{statement}
+use Rattle.codec.proofs.writing.byte.Tie as tie
+
+abbrev Inv-loop : tie.InvT-loop
+Inv-loop head row from x₀ k₀ x k = (k ≤ 8) × (x ≡ number (take k (drop from (filled-bits head row))))
+
+abbrev μ-loop : tie.MeasureT-loop
+μ-loop head row from x₀ k₀ x k = 8 - k
+
+loop-holds : tie.Need-loop-holds Inv-loop μ-loop
+unfolding number
+loop-holds c = (search needs, refl)
+
+abbrev plan-at : tie.At-loop Inv-loop μ-loop → List ℕ
+plan-at c = filled-bits (c .before .before .args .head) (c .before .before .args .row .now)
+
+abbrev from-at : tie.At-loop Inv-loop μ-loop → ℕ
+from-at c = c .before .before .args .from
+
+known : (c : tie.At-loop Inv-loop μ-loop) → Facts (c .before .before .args .head) (c .before .before .args .row .now)
+known c = facts _ _ (c .before .before .pre .0)
+
+-- the byte lies within the plan's bits
+inside : (c : tie.In-loop Inv-loop μ-loop) → from-at (c .before) + c .before .loop .k < length (plan-at (c .before))
+inside c = rw (length-filled (c .before .before .before .args .head) _ (known (c .before) .row-is)) (omega arith)
+
+-- the bits so far and the next one are a byte
+turn :
+    (c : tie.In-loop Inv-loop μ-loop) (b : ℕ)
+    → b ≡ getD (plan-at (c .before)) (from-at (c .before) + c .before .loop .k) 0
+    → c .before .loop .x * 2 + b < 2 ^ 8
+turn c b next = field-fits _ _ _ _ _ (c .before .loop .inv .1) next (inside c) 8 (bits-filled _ _) (omega arith)
+
+next-bit :
+    (c : tie.After-bit Inv-loop μ-loop)
+    → c .bit .result ≡ getD (plan-at (c .before .before)) (from-at (c .before .before) + c .before .before .loop .k) 0
+next-bit c = c .bit .ensures ∙ sym (filled-at (c .before .before .before .before .args .head) _ _)
+
+mul-x : tie.Need-mul-x Inv-loop μ-loop
+mul-x c = omega (arith, turn c _ refl)
+
+add-bit : tie.Need-add-bit Inv-loop μ-loop
+add-bit c =
+    let limits = known (c .before) in
+    omega (arith, byte-length-fits (c .before .before .before .args .head) (limits .months-fit) (limits .sizes-fit))
+
+bit-requires : tie.Need-bit-requires Inv-loop μ-loop
+bit-requires c κs = search needs
+
+add-x : tie.Need-add-x Inv-loop μ-loop
+add-x c = omega (arith, turn (c .before) _ (next-bit c))
+
+add-k : tie.Need-add-k Inv-loop μ-loop
+add-k c = search needs
+
+loop-less : tie.Need-loop-less Inv-loop μ-loop
+loop-less c = search needs
+
+loop-again : tie.Need-loop-again Inv-loop μ-loop
+loop-again c = (search needs, field-next _ _ _ _ _ (c .before .before .loop .inv .1) (next-bit c) (inside (c .before)))
+
+-- all eight bits
+whole : (c : tie.After-loop Inv-loop μ-loop) → c .before .loop .x ≡ number (take 8 (drop (from-at (c .before)) (plan-at (c .before))))
+whole c =
+    let eight : c .before .loop .k ≡ 8 = omega arith in
+    rw (← eight) (c .before .loop .inv .1)
+
+cast-result : tie.Need-cast-result Inv-loop μ-loop
+cast-result c =
+    omega (arith, whole c, number-fits (plan-at (c .before)) (from-at (c .before)) 8 8 (bits-filled _ _) (lit≤ tt))
+
+returns : tie.Need-returns Inv-loop μ-loop
+returns c = whole c
+
+pub byte-spec : {M : Type 1} → statement M
+byte-spec =
+    tie.close
+    (tie.spec
+    Inv-loop
+    μ-loop
+    loop-holds
+    mul-x
+    add-bit
+    bit-requires
+    add-x
+    add-k
+    loop-less
+    loop-again
+    cast-result
+    returns)

@@ -1,0 +1,67 @@
+-- `codec::writing::encode` meets its contract: the bytes fill with fields of 8 bits.
+use Prim.Native.Nat.{_-_}
+use mathlib.Core.Path.{ap, _∙_}
+use native.Mathlib.Omega.{arith}
+use borrow.Author.Needs.{needs}
+use lib.ListN.{length, length-set}
+use Rattle.model.specs.Format.{fields, filled-bits, bytes-of}
+use Rattle.model.proofs.Facts.{facts}
+use Rattle.codec.proofs.Fields.{Filling, filling-none, filling-more, filling-done}
+use Rattle.codec.proofs.PlanBits.{byte-length-fits}
+use Rattle.codec.proofs.writing.encode.Statement.{statement}
+use Rattle.codec.proofs.writing.encode.Tie as tie
+
+abbrev Inv-loop : tie.InvT-loop
+Inv-loop head row bytes₀ i₀ bytes i = Filling 8 (filled-bits head row) bytes₀ bytes i
+
+abbrev μ-loop : tie.MeasureT-loop
+μ-loop head row bytes₀ i₀ bytes i = length bytes - i
+
+loop-holds : tie.Need-loop-holds Inv-loop μ-loop
+loop-holds c = filling-none _ _ _
+
+mul-byte : tie.Need-mul-byte Inv-loop μ-loop
+mul-byte c =
+    let known = facts _ _ (c .before .before .before .before .pre .0) in
+    omega (arith, byte-length-fits (c .before .before .before .before .args .head) (known .months-fit) (known .sizes-fit))
+
+byte-requires : tie.Need-byte-requires Inv-loop μ-loop
+byte-requires c κs = (c .before .before .before .before .pre .0, omega arith)
+
+slice-write-bytes : tie.Need-slice-write-bytes Inv-loop μ-loop
+slice-write-bytes c = search needs
+
+add-i : tie.Need-add-i Inv-loop μ-loop
+add-i c = search needs
+
+loop-less : tie.Need-loop-less Inv-loop μ-loop
+loop-less c = simp length-set (omega arith)
+
+loop-again : tie.Need-loop-again Inv-loop μ-loop
+loop-again c = filling-more _ _ _ _ _ (c .before .before .loop .inv) _ (c .before .loop-test .taken) (c .byte .ensures)
+
+same-length : tie.Need-same-length Inv-loop μ-loop
+same-length c = c .before .loop .inv .same
+
+returns : tie.Need-returns Inv-loop μ-loop
+unfolding bytes-of
+returns c =
+    let start = c .before .before .before .before in
+    filling-done _ _ _ _ _ (c .before .loop .inv) (c .loop-test .left)
+    ∙ ap (λ n. fields 8 n (filled-bits (start .args .head) (start .args .row .now))) (start .pre .1)
+
+pub encode-spec : {M : Type 1} → statement M
+encode-spec =
+    tie.close
+    (tie.spec
+    Inv-loop
+    μ-loop
+    loop-holds
+    mul-byte
+    byte-requires
+    slice-write-bytes
+    add-i
+    loop-less
+    loop-again
+    same-length
+    returns)

@@ -1,0 +1,63 @@
+// Plan bytes: reading them into a lent row, and writing a head and a row into lent bytes.
+mod bits;
+mod format;
+mod reading;
+mod writing;
+
+use model::Head;
+ghost use mathlib.Core.Path.{_≡_};
+ghost use lib.ListN.{length};
+ghost use Rattle.codec.specs.Answers.{read-answer, row-after, write-answer, bytes-after};
+
+// What reading answers: the refusal's number, 0 if there is none, and the plan's head, all zero if it is refused.
+pub struct ReadAnswer {
+    pub refusal: u32,
+    pub head: Head,
+}
+
+// What writing answers: the refusal's number, 0 if there is none, and how many bytes are written.
+pub struct WriteAnswer {
+    pub refusal: u32,
+    pub length: usize,
+}
+
+// Reads a plan: its row fills the first numbers of the lent row, the rest of which is untouched, as all of it is if the plan is refused.
+pub fn read(bytes: &[u8], row: &mut [u32]) -> ReadAnswer
+    ensures answer { λ r. ⌜ r ≡ read-answer (now (bytes .entry)) (length (now (row .entry))) ⌝ }
+    ensures memory { λ r. ⌜ now (row .exit) ≡ row-after (now (bytes .entry)) (now (row .entry)) ⌝ }
+{
+    let wrong = reading::refusal(bytes, row.len());
+    if wrong != 0 {
+        let none = Head {
+            months: 0,
+            opening: 0,
+            sizes: 0,
+        };
+        return ReadAnswer {
+            refusal: wrong,
+            head: none,
+        };
+    }
+    // The checks read the numbers into a row of their own. Only now, when they have ended, is anything stored in the lent one.
+    let head = reading::head_of(bytes);
+    let count = format::row_length(head);
+    reading::decode(bytes, &mut row[..count]);
+    ReadAnswer {
+        refusal: wrong,
+        head,
+    }
+}
+
+// Writes a plan: its bytes fill the first of the lent bytes, the rest of which is untouched, as all of them are if the plan is refused.
+pub fn write(head: Head, row: &[u32], bytes: &mut [u8]) -> WriteAnswer
+    ensures answer { λ r. ⌜ r ≡ write-answer head (now (row .entry)) (length (now (bytes .entry))) ⌝ }
+    ensures memory { λ r. ⌜ now (bytes .exit) ≡ bytes-after head (now (row .entry)) (now (bytes .entry)) ⌝ }
+{
+    let refusal = writing::refusal(head, row, bytes.len());
+    if refusal != 0 {
+        return WriteAnswer { refusal, length: 0 };
+    }
+    let length = format::byte_length(head);
+    writing::encode(head, row, &mut bytes[..length]);
+    WriteAnswer { refusal, length }
+}
