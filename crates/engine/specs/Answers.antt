@@ -1,8 +1,8 @@
 -- What each call answers and leaves in lent memory, for every input: "A refusal gives its number, zero in each number it would have answered,
 -- and changes no lent memory."
-use Prim.Native.Nat.{ℕ, zero, suc}
+use Prim.Native.Nat.{ℕ}
 use mathlib.Core.Bool.{cond}
-use mathlib.Core.List.{List, [], _∷_, _++_}
+use mathlib.Core.List.{List, _++_}
 use lib.Dec.{eqb}
 use lib.ListN.{length, drop, replicate}
 use Rattle.model.specs.declared.Head.{Head}
@@ -10,10 +10,10 @@ use Rattle.model.specs.declared.Ask.{Ask}
 use Rattle.engine.specs.declared.Answer.{Answer}
 use Rattle.engine.specs.declared.CountRow.{CountRow}
 use Rattle.engine.specs.declared.CountAnswer.{CountAnswer}
+use Rattle.engine.specs.Rows.{tabulate}
 use Rattle.model.specs.Limits.{places}
-use Rattle.model.specs.Scale.{Rounding, down, up}
+use Rattle.model.specs.Scale.{down, up}
 use Rattle.model.specs.Plan.{Plan, plan-of}
-use Rattle.model.specs.MonthRule.{Row}
 use Rattle.model.specs.CountRow.{count-row}
 use Rattle.model.specs.Bounds.{lower, upper}
 use Rattle.model.specs.Refusal.{ask-refusal, count-refusal, workspace-needed}
@@ -35,11 +35,6 @@ answer a row room =
 unfoldable pub workspace-after : Ask → List ℕ → List ℕ → List ℕ
 workspace-after a row workspace =
     cond (eqb (ask-refusal a row (length workspace)) 0) (replicate (workspace-needed a) 0 ++ drop (workspace-needed a) workspace) workspace
-
--- a row's values at the places 0 to n − 1
-unfoldable pub tabulate : ℕ → Row → List ℕ
-tabulate zero row = []
-tabulate (suc n) row = row 0 ∷ tabulate n (λ k. row (suc k))
 
 -- "a row of 61 lower and a row of 61 upper bounds for k = 0 to 60"
 unfoldable pub count-rows : List ℕ → CountRow

@@ -1,0 +1,135 @@
+-- Laws of an answer: what is known where nothing is refused, and the answer and the workspace from what the two halves give.
+use mathlib.Core.Path.{_≡_, refl, sym, _∙_, ap}
+use mathlib.Core.Bool.{Bool, true, false, cond}
+use mathlib.Core.List.{List, _++_, append-assoc}
+use Prim.Native.Nat.{ℕ, zero, suc, _+_, _*_, _-_, _≤_, _<_}
+use native.Mathlib.Nat.{mul-assoc, mul-comm}
+use native.Mathlib.Omega.{arith}
+use lib.Dec.{ltb, eqb}
+use lib.ListN.{length, take, drop, replicate, length-drop, length-replicate, replicate-append-replicate}
+use lib.Seq.{length-take-le, take-at, drop-at, drop-drop}
+use borrow.Author.Tests.{ne-eqb, ltb-false}
+use borrow.Rule.Slice.PartMut.{midOf, putMid}
+use Rattle.model.specs.declared.Head.{Head}
+use Rattle.model.specs.declared.Ask.{Ask}
+use Rattle.model.specs.declared.Question.{Question}
+use Rattle.model.specs.Scale.{S, Rounding}
+use Rattle.model.specs.Sums.{total}
+use Rattle.model.specs.Plan.{plan-of, row-length}
+use Rattle.model.specs.MonthRule.{month, value, values, all-placed}
+use Rattle.model.specs.Bounds.{bound, lower, upper}
+use Rattle.model.specs.Refusal.{plan-refusal, outside, rows-needed, workspace-needed, ask-refusal}
+use Rattle.model.proofs.Facts.{Facts}
+use Rattle.engine.specs.declared.Answer.{Answer}
+use Rattle.engine.specs.Rows.{Parts, round-by}
+use Rattle.engine.specs.Shapes.{rule-with, shape-of, width-of}
+use Rattle.engine.specs.Answers.{answer, workspace-after}
+use Rattle.engine.proofs.RowLaws.{parts-part}
+use Rattle.engine.proofs.AskLaws.{ask-refusal-is, shape-rows, rows-few, shape-value}
+
+-- what is known of an ask that is not refused
+pub record Asked (a : Ask) (row : List ℕ) (room : ℕ) : Type 0 where
+  pub accepted : plan-refusal (a .head) row ≡ 0
+  pub inside : outside (a .question) ≡ false
+  pub enough : workspace-needed a ≤ room
+
+pub asked : (a : Ask) (row : List ℕ) (room : ℕ) → ask-refusal a row room ≡ 0 → Asked a row room
+asked a row room e =
+    go (plan-refusal (a .head) row) refl (outside (a .question)) refl (ltb room (workspace-needed a)) refl (sym (ask-refusal-is a row room) ∙ e)
+  where
+    go :
+        (n : ℕ) → plan-refusal (a .head) row ≡ n → (o : Bool) → outside (a .question) ≡ o → (s : Bool) → ltb room (workspace-needed a) ≡ s →
+        cond (eqb n 0) (cond o 10 (cond s 11 0)) n ≡ 0 → Asked a row room
+    go zero en true eo s es e = absurd (omega (arith, e))
+    go zero en false eo true es e = absurd (omega (arith, e))
+    go zero en false eo false es e = record { accepted = en; inside = eo; enough = ltb-false room (workspace-needed a) es }
+    go (suc n) en o eo s es e = absurd (omega (arith, rw (ne-eqb (suc n) 0 (λ z. omega arith)) at e))
+
+-- the answer and the workspace of a refusal
+pub answer-refused :
+    (a : Ask) (row : List ℕ) (room n : ℕ) → n ≡ ask-refusal a row room → (n ≡ 0 → ⊥) →
+    _≡_ {A = Answer} (record { refusal = n; lower = 0; upper = 0 }) (answer a row room)
+unfolding answer
+answer-refused a row room n e ne = rw (← e, ne-eqb n 0 ne)
+
+pub workspace-refused :
+    (a : Ask) (row ws : List ℕ) (n : ℕ) → n ≡ ask-refusal a row (length ws) → (n ≡ 0 → ⊥) → ws ≡ workspace-after a row ws
+unfolding workspace-after
+workspace-refused a row ws n e ne = rw (← e, ne-eqb n 0 ne)
+
+-- and of an answer
+pub answer-given :
+    (a : Ask) (row : List ℕ) (room low high : ℕ) → ask-refusal a row room ≡ 0 →
+    low ≡ lower (plan-of (a .head) row) (a .question) → high ≡ upper (plan-of (a .head) row) (a .question) →
+    _≡_ {A = Answer} (record { refusal = 0; lower = low; upper = high }) (answer a row room)
+unfolding answer
+answer-given a row room low high e el eh = rw (e, el, eh)
+
+pub workspace-cleared :
+    (a : Ask) (row ws front back : List ℕ) (half : ℕ) → ask-refusal a row (length ws) ≡ 0 → 2 * half ≡ workspace-needed a → 2 * half ≤ length ws →
+    front ≡ replicate (length (take half ws)) 0 →
+    back ≡ replicate (length (midOf half (2 * half - half) (front ++ drop half ws))) 0 →
+    putMid half (2 * half - half) (front ++ drop half ws) back ≡ workspace-after a row ws
+unfolding workspace-after
+workspace-cleared a row ws front back half e en fits ef eb =
+    let before : length (take half ws) ≡ half = length-take-le half ws (omega arith) in
+    let front-count : length front ≡ half = ap length ef ∙ length-replicate {A = ℕ} (length (take half ws)) 0 ∙ before in
+    let second : 2 * half - half ≡ half = omega arith in
+    let both : half + half ≡ 2 * half = omega arith in
+    let mid : length (take half (drop half ws)) ≡ half = length-take-le half (drop half ws) (omega (arith, length-drop half ws)) in
+    rw (
+      e,
+      ← en,
+      take-at front (drop half ws) half front-count,
+      eb,
+      drop-at front (drop half ws) half front-count,
+      second,
+      mid,
+      drop-drop half half ws,
+      ef,
+      before,
+      ← append-assoc (replicate half 0) (replicate half 0) (drop (half + half) ws),
+      replicate-append-replicate half half (_),
+      both,
+    )
+
+-- the two halves are what is needed
+pub needed-halves : (a : Ask) (rows : ℕ) → rows ≡ rows-needed (a .question) → 2 * (rows * (a .head .opening + a .head .months + 1)) ≡ workspace-needed a
+unfolding workspace-needed
+needed-halves a rows e =
+    let width : ℕ = a .head .opening + a .head .months + 1 in
+    ap (λ n. 2 * (n * width)) e ∙ ap (λ n. 2 * n) (mul-comm (rows-needed (a .question)) width) ∙ sym (mul-assoc 2 width (rows-needed (a .question)))
+
+-- what a half asks of the plan's row
+pub chances-parts : (h : Head) (row : List ℕ) → Facts h row → Parts (take (h .months) row)
+chances-parts h row f = parts-part row 0 (h .months) (record { each = f .numbers-fit })
+
+pub severity-fits : (h : Head) (row : List ℕ) → Facts h row → total (take (h .months + h .sizes - h .months) (drop (h .months) row)) ≤ S
+unfolding plan-of
+severity-fits h row f =
+    let sizes : h .months + h .sizes - h .months ≡ h .sizes = omega arith in
+    rw sizes (omega (arith, f .weights-add))
+
+pub width-is : (h : Head) (row : List ℕ) → Facts h row → width-of (h .opening) (take (h .months) row) ≡ h .opening + h .months + 1
+width-is h row f = omega (arith, f .row-is, length-take-le (h .months) row (omega (arith, f .row-is)))
+
+-- the value that a half gives, by the question
+module _ (h : Head) (row : List ℕ) (row-is : length row ≡ row-length h) (q : Question) (inside : outside q ≡ false) where
+  months-count : length (take (h .months) row) ≡ h .months
+  months-count = length-take-le (h .months) row (omega arith)
+
+  pub bound-is :
+      (bias : ℕ) (round : Rounding) → round ≡ round-by bias → (r : ℕ) →
+      r
+      ≡ values (month (round-by bias) (take (h .months + h .sizes - h .months) (drop (h .months) row)))
+      (rule-with all-placed (shape-of q (h .opening + h .months + 1))) (take (h .months) row) (shape-of q (h .opening + h .months + 1) .rows - 1)
+      (h .opening) →
+      r ≡ bound round (plan-of h row) q
+  unfolding bound value plan-of
+  bound-is bias round er r e =
+      let some-row : 0 < shape-of q (h .opening + h .months + 1) .rows = omega (arith, shape-rows q (h .opening + h .months + 1), rows-few q inside) in
+      let sizes : h .months + h .sizes - h .months ≡ h .sizes = omega arith in
+      rw er
+      (rw sizes at e
+      ∙ shape-value (round-by bias) (take (h .sizes) (drop (h .months) row)) (take (h .months) row) q (h .opening) (h .opening + h .months + 1)
+      (omega (arith, months-count)) some-row)

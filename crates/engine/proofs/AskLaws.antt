@@ -1,0 +1,125 @@
+-- Laws of a question's refusal and of its shape: which rows it needs, and that their rule has the question's values.
+use mathlib.Core.Path.{_≡_, refl, sym}
+use mathlib.Core.Logic.{⊎-elim}
+use mathlib.Core.Bool.{Bool, true, false, _&&_, cond}
+use mathlib.Core.List.{List, [], _∷_}
+use mathlib.Core.Option.{some}
+use Prim.Native.Nat.{ℕ, zero, suc, _+_, _*_, _-_, _≤_, zero-le, _<_}
+use native.Mathlib.Nat.{mul-le-mul}
+use native.Mathlib.Omega.{arith}
+use lib.Dec.{leb, ltb, eqb}
+use lib.ListN.{length}
+use borrow.Author.Tests.{le-leb, lt-leb, lt-ltb, le-ltb, ltb-false}
+use Rattle.model.specs.declared.Ask.{Ask}
+use Rattle.model.specs.declared.Question.{Question}
+use Rattle.model.specs.declared.Question.the-variants.{Survive, Both, High, Low}
+use Rattle.model.specs.Limits.{max-claims, max-months, max-opening}
+use Rattle.model.specs.Scale.{S, Rounding}
+use Rattle.model.specs.MonthRule.{Row, month, values, rule-of, claims-of, claimed-row, all-placed, one-fewer}
+use Rattle.model.specs.Refusal.{first, plan-refusal, outside, rows-needed, workspace-needed, ask-refusal}
+use Rattle.model.proofs.Facts.{plan-first}
+use Rattle.engine.specs.Rows.{between, after-claim-by}
+use Rattle.engine.specs.Shapes.{rule-with, shape-of}
+use Rattle.engine.proofs.ForbidLaws.{below-or-not}
+use Rattle.engine.proofs.MonthsLaws.{Agree, values-agree}
+
+-- the checks after those of the plan
+pub ask-refusal-is :
+    (a : Ask) (row : List ℕ) (room : ℕ) →
+    ask-refusal a row room
+    ≡ cond (eqb (plan-refusal (a .head) row) 0)
+    (cond (outside (a .question)) 10 (cond (ltb room (workspace-needed a)) 11 0))
+    (plan-refusal (a .head) row)
+unfolding ask-refusal first
+ask-refusal-is a row room = plan-first (a .head) row ((10, outside (a .question)) ∷ (11, ltb room (workspace-needed a)) ∷ [])
+
+pub shape-rows : (q : Question) (width : ℕ) → shape-of q width .rows ≡ rows-needed q
+unfolding shape-of rows-needed
+shape-rows Survive width = refl
+shape-rows (Both k) width = refl
+shape-rows (High L) width = refl
+shape-rows (Low L) width = refl
+
+pub rows-few : (q : Question) → outside q ≡ false → (0 < rows-needed q) × (rows-needed q ≤ max-claims + 1)
+unfolding outside rows-needed
+rows-few Survive e = omega arith
+rows-few (Both k) e = omega (arith, ltb-false max-claims k e)
+rows-few (High L) e = omega arith
+rows-few (Low L) e = omega arith
+
+-- the workspace of the largest plan and question
+pub workspace-fits :
+    (a : Ask) → a .head .months ≤ max-months → a .head .opening ≤ max-opening → outside (a .question) ≡ false →
+    workspace-needed a ≤ 2 * (max-opening + max-months + 1) * (max-claims + 1)
+unfolding workspace-needed
+workspace-fits a hm ho e =
+    let width : 2 * (a .head .opening + a .head .months + 1) ≤ 2 * (max-opening + max-months + 1) = omega arith in
+    mul-le-mul width (rows-few (a .question) e .1)
+
+-- the claims to place are those of the last row
+claims-last : (q : Question) (width : ℕ) → claims-of q ≡ shape-of q width .rows - 1
+unfolding claims-of shape-of
+claims-last Survive width = refl
+claims-last (Both k) width = omega arith
+claims-last (High L) width = refl
+claims-last (Low L) width = refl
+
+-- Where claims are not counted there is one row, and every claim leads back to it.
+one-last : (j : ℕ) → j < 1 → (s : ℕ) → S ≡ all-placed j s
+unfolding all-placed
+one-last zero l s = refl
+one-last (suc j) l s = absurd (omega arith)
+
+one-claimed :
+    (j : ℕ) → j < 1 → (X X′ : ℕ → Row) (k : ℕ) → ((i : ℕ) → i < 1 → X i k ≡ X′ i k) →
+    claimed-row X (some j) k ≡ claimed-row X′ (after-claim-by false j) k
+unfolding claimed-row after-claim-by
+one-claimed zero l X X′ k h = h 0 l
+one-claimed (suc j) l X X′ k h = absurd (omega arith)
+
+counted-claimed :
+    (count j : ℕ) → j < count → (X X′ : ℕ → Row) (k : ℕ) → ((i : ℕ) → i < count → X i k ≡ X′ i k) →
+    claimed-row X (one-fewer j) k ≡ claimed-row X′ (after-claim-by true j) k
+unfolding claimed-row after-claim-by one-fewer
+counted-claimed count zero l X X′ k h = refl
+counted-claimed count (suc j) l X X′ k h = h j (omega arith)
+
+-- the levels of the rows are those that are not forbidden
+all-between : (top s : ℕ) → s ≤ top → true ≡ between 0 (top + 1) s
+unfolding between
+all-between top s l = rw (le-leb 0 s zero-le, lt-ltb s (top + 1) (omega arith))
+
+high-between : (L s : ℕ) → leb s L ≡ between 0 (L + 1) s
+unfolding between
+high-between L s =
+    ⊎-elim
+    (λ l. rw (le-leb s L (omega arith), le-leb 0 s zero-le, lt-ltb s (L + 1) l))
+    (λ l. rw (lt-leb s L (omega arith), le-leb 0 s zero-le, le-ltb s (L + 1) l))
+    (below-or-not s (L + 1))
+
+low-between : (L top s : ℕ) → s ≤ top → leb L s ≡ between L (top + 1) s
+unfolding between
+low-between L top s l = rw (lt-ltb s (top + 1) (omega arith)) (and-true (leb L s))
+  where
+    and-true : (t : Bool) → t ≡ t && true
+    and-true true = refl
+    and-true false = refl
+
+-- the rule of a question and the rule of its shape
+shape-agree : (q : Question) (top : ℕ) → Agree (rule-of q) (rule-with all-placed (shape-of q (top + 1))) (shape-of q (top + 1) .rows) top
+unfolding rule-of rule-with shape-of
+shape-agree Survive top = record { last = λ j l s m. one-last j l s; claimed = one-claimed; allowed = all-between top }
+shape-agree (Both k) top = record { last = λ j l s m. refl; claimed = counted-claimed (k + 1); allowed = all-between top }
+shape-agree (High L) top = record { last = λ j l s m. one-last j l s; claimed = one-claimed; allowed = λ s m. high-between L s }
+shape-agree (Low L) top = record { last = λ j l s m. one-last j l s; claimed = one-claimed; allowed = low-between L top }
+
+-- the value of a question, from its shape
+pub shape-value :
+    (round : Rounding) (F Ps : List ℕ) (q : Question) (u width : ℕ) → width ≡ u + length Ps + 1 → 0 < shape-of q width .rows →
+    values (month round F) (rule-with all-placed (shape-of q width)) Ps (shape-of q width .rows - 1) u
+    ≡ values (month round F) (rule-of q) Ps (claims-of q) u
+shape-value round F Ps q u width e p =
+    rw (claims-last q width)
+    (sym
+    (values-agree round F (rule-of q) (rule-with all-placed (shape-of q width)) (shape-of q width .rows) (u + length Ps)
+    (rw e (shape-agree q (u + length Ps))) Ps (shape-of q width .rows - 1) u (omega arith) (omega arith)))

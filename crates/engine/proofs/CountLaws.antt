@@ -1,0 +1,229 @@
+-- Laws of the count row: a row rewritten in place from the last place down, and the months in their order.
+use mathlib.Core.Path.{_≡_, refl, sym, _∙_, ap}
+use mathlib.Core.List.{List, [], _∷_, append-nil}
+use Prim.Native.Nat.{ℕ, zero, suc, _+_, _*_, _-_, _≤_, zero-le, _<_}
+use native.Mathlib.Nat.{zero-add, add-comm, le-refl}
+use native.Mathlib.Numerals.{add-one}
+use native.Mathlib.Omega.{arith}
+use lib.ListN.{length, getD, take, drop, set}
+use borrow.Author.Tests.{ne-eqb}
+use lib.Seq.{drop-cons, drop-length, ext-getD}
+use Rattle.model.specs.Limits.{places}
+use Rattle.model.specs.Scale.{S, Rounding, down, up}
+use Rattle.model.specs.MonthRule.{Row}
+use Rattle.model.specs.CountRow.{one-before, count-month, no-months, counted, count-row}
+use Rattle.model.specs.declared.Head.{Head}
+use Rattle.model.specs.Plan.{plan-of}
+use Rattle.model.specs.Exact.{exact-count}
+use Rattle.model.specs.Bounds.{Encloses, count-lower, count-upper}
+use Rattle.model.specs.Refusal.{plan-refusal, Accepted}
+use Rattle.model.proofs.Month.{mixture-le}
+use Rattle.model.proofs.Theorems.{count-enclosure}
+use Rattle.engine.specs.declared.CountRow.{CountRow}
+use Rattle.engine.specs.Rows.{at, Parts, round-by, tabulate, with-row}
+use Rattle.engine.specs.Counts.{CountParts, rows-after}
+use Rattle.engine.specs.declared.CountAnswer.{CountAnswer}
+use Rattle.engine.specs.Answers.{count-rows, zero-rows, count-answer}
+use Rattle.engine.proofs.MonthLaws.{round-by-le, down-by, up-by}
+use Rattle.engine.proofs.RowLaws.{length-tabulate, getD-tabulate, midway, midway-start, midway-suc, midway-end, midway-below}
+
+-- the row after one more month
+abbrev pub count-after : ℕ → ℕ → List ℕ → Row
+count-after bias P old = count-month (round-by bias) P (at old)
+
+-- the row while the places from k on are new and the rest is old
+abbrev pub counting : List ℕ → ℕ → ℕ → ℕ → List ℕ
+counting old bias P k = midway old 0 (length old) (count-after bias P old) k
+
+module _ (old : List ℕ) (bias P : ℕ) where
+  whole : 0 + length old ≤ length old
+  whole = omega arith
+
+  pub counting-start : counting old bias P (length old) ≡ old
+  counting-start = midway-start old 0 (length old) (count-after bias P old) whole
+
+  pub counting-turn :
+      (row : List ℕ) (k v : ℕ) → k < length old → row ≡ counting old bias P (k + 1) → v ≡ count-after bias P old k →
+      set row k v ≡ counting old bias P k
+  counting-turn row k v l e ev =
+      rw (e, ev, add-one) (ap (λ i. set (counting old bias P (suc k)) i (count-after bias P old k)) (sym (zero-add k))
+      ∙ midway-suc old 0 (length old) (count-after bias P old) whole k l)
+
+  pub counting-end : counting old bias P 0 ≡ tabulate (length old) (count-after bias P old)
+  unfolding with-row
+  counting-end =
+      midway-end old 0 (length old) (count-after bias P old) whole
+      ∙ rw (zero-add, drop-length old) (append-nil (tabulate (length old) (count-after bias P old)))
+
+  -- the places up to k are still old
+  pub counting-below : (row : List ℕ) (k i : ℕ) → k < length old → row ≡ counting old bias P (k + 1) → i ≤ k → getD row i 0 ≡ getD old i 0
+  counting-below row k i l e m = rw e (midway-below old 0 (length old) (count-after bias P old) whole (k + 1) i (omega arith) (omega arith))
+
+  -- the value at a place
+  pub place-value :
+      (row : List ℕ) (k v : ℕ) → 0 < k → k < length old → row ≡ counting old bias P (k + 1) →
+      v ≡ round-by bias ((S - P) * getD row k 0 + P * getD row (k - 1) 0) → v ≡ count-after bias P old k
+  unfolding count-month one-before
+  place-value row zero v p l e ev = absurd (omega arith)
+  place-value row (suc k) v p l e ev =
+      let less : suc k - 1 ≡ k = omega arith in
+      rw (ev, less, counting-below row (suc k) (suc k) l e (omega arith), counting-below row (suc k) k l e (omega arith))
+      (ap (round-by bias) (add-comm ((S - P) * getD old (suc k) 0) (P * getD old k 0)))
+
+  pub first-value :
+      (row : List ℕ) (v : ℕ) → 0 < length old → row ≡ counting old bias P 1 → v ≡ round-by bias ((S - P) * getD row 0 0 + P * 0) →
+      v ≡ count-after bias P old 0
+  unfolding count-month one-before
+  first-value row v l e ev =
+      rw (ev, counting-below row 0 0 l e (omega arith)) (ap (round-by bias) (add-comm ((S - P) * getD old 0 0) (P * 0)))
+
+-- the same by its rounding, of a whole row
+pub count-after-is :
+    (bias : ℕ) (round : Rounding) → round ≡ round-by bias → (P : ℕ) (old new : List ℕ) → length old ≡ places →
+    new ≡ tabulate (length old) (count-after bias P old) → new ≡ tabulate places (count-month round P (at old))
+count-after-is bias round er P old new n e = rw (← n, er) e
+
+parts-tabulate : (n : ℕ) (row : Row) → ((k : ℕ) → row k ≤ S) → Parts (tabulate n row)
+unfolding tabulate
+parts-tabulate n row h = record { each = go n row h }
+  where
+    go : (n : ℕ) (row : Row) → ((k : ℕ) → row k ≤ S) → (k : ℕ) → getD (tabulate n row) k 0 ≤ S
+    go zero row h k = zero-le
+    go (suc n) row h zero = h 0
+    go (suc n) row h (suc k) = go n (λ i. row (suc i)) (λ i. h (suc i)) k
+
+-- the values after a month are at most S again
+count-after-le : (round : Rounding) (bias : ℕ) → round ≡ round-by bias → bias < S → (P : ℕ) → P ≤ S → (row : Row) → ((k : ℕ) → row k ≤ S) →
+    (k : ℕ) → count-month round P row k ≤ S
+unfolding count-month one-before
+count-after-le round bias e hb P hP row h k =
+    rw (e, add-comm (P * one-before row k) ((S - P) * row k))
+    (round-by-le bias ((S - P) * row k + P * one-before row k) hb (mixture-le P (row k) (one-before row k) S hP (h k) (before-le k)))
+  where
+    before-le : (k : ℕ) → one-before row k ≤ S
+    before-le zero = zero-le
+    before-le (suc k) = h k
+
+no-months-le : (k : ℕ) → no-months k ≤ S
+unfolding no-months
+no-months-le zero = le-refl S
+no-months-le (suc k) = zero-le
+
+-- a month at place k reads no place above k, and so do all months
+count-month-agree :
+    (round : Rounding) (P n : ℕ) (row row′ : Row) → ((k : ℕ) → k < n → row k ≡ row′ k) →
+    (k : ℕ) → k < n → count-month round P row k ≡ count-month round P row′ k
+unfolding count-month one-before
+count-month-agree round P n row row′ h zero l = rw (h 0 l)
+count-month-agree round P n row row′ h (suc k) l = rw (h (suc k) l, h k (omega arith))
+
+counted-agree :
+    (round : Rounding) (Ps : List ℕ) (n : ℕ) (row row′ : Row) → ((k : ℕ) → k < n → row k ≡ row′ k) →
+    (k : ℕ) → k < n → counted (count-month round) Ps row k ≡ counted (count-month round) Ps row′ k
+unfolding counted
+counted-agree round [] n row row′ h = h
+counted-agree round (P ∷ Ps) n row row′ h = counted-agree round Ps n (count-month round P row) (count-month round P row′) (count-month-agree round P n row row′ h)
+
+-- Where the months from t on still have to come: what they make of a row is the count row.
+abbrev pub Ahead : Rounding → List ℕ → List ℕ → ℕ → Type 0
+Ahead round chances xs t = (k : ℕ) → k < places → counted (count-month round) (drop t chances) (at xs) k ≡ count-row round chances k
+
+ahead-turn :
+    (round : Rounding) (chances xs : List ℕ) (t : ℕ) → t < length chances → Ahead round chances xs t →
+    Ahead round chances (tabulate places (count-month round (getD chances t 0) (at xs))) (t + 1)
+unfolding counted
+ahead-turn round chances xs t l h k m =
+    counted-agree round (drop (t + 1) chances) places (at (tabulate places new)) new (getD-tabulate places new) k m
+    ∙ rw add-one (ap (λ Ps. counted (count-month round) Ps (at xs) k) (sym (drop-cons chances t 0 l)) ∙ h k m)
+  where
+    new : Row
+    new = count-month round (getD chances t 0) (at xs)
+
+ahead-end :
+    (round : Rounding) (chances xs : List ℕ) (t : ℕ) → t ≡ length chances → length xs ≡ places → Ahead round chances xs t →
+    xs ≡ tabulate places (count-row round chances)
+unfolding counted
+ahead-end round chances xs t e n h =
+    ext-getD 0 xs (tabulate places (count-row round chances)) (n ∙ sym (length-tabulate places (count-row round chances)))
+    (λ k l. rw (e, drop-length chances) at (h k (omega (arith, n))) ∙ sym (getD-tabulate places (count-row round chances) k (omega (arith, n))))
+
+-- the row after no months
+ahead-start : (round : Rounding) (chances : List ℕ) → Ahead round chances (tabulate places (count-row round [])) 0
+unfolding count-row counted
+ahead-start round chances k l = counted-agree round chances places (at (tabulate places no-months)) no-months (getD-tabulate places no-months) k l
+
+-- the rows while the months go: whole, in parts of S, and on their way to the count row
+pub record Counting (chances : List ℕ) (row : CountRow) (t : ℕ) : Type 0 where
+  pub parts : CountParts row
+  pub lower-ahead : Ahead down chances (row .lower) t
+  pub upper-ahead : Ahead up chances (row .upper) t
+
+whole-parts :
+    (low high : Row) → ((k : ℕ) → low k ≤ S) → ((k : ℕ) → high k ≤ S) →
+    CountParts (record { lower = tabulate places low; upper = tabulate places high })
+whole-parts low high hl hh =
+    record {
+      lower-length = length-tabulate places low;
+      upper-length = length-tabulate places high;
+      lower-parts = parts-tabulate places low hl;
+      upper-parts = parts-tabulate places high hh;
+    }
+
+pub counting-rows-start : (chances : List ℕ) → Counting chances (count-rows []) 0
+unfolding count-rows count-row counted
+counting-rows-start chances =
+    record {
+      parts = whole-parts no-months no-months no-months-le no-months-le;
+      lower-ahead = ahead-start down chances;
+      upper-ahead = ahead-start up chances;
+    }
+
+pub counting-rows-turn :
+    (chances : List ℕ) → Parts chances → (row : CountRow) (t : ℕ) → t < length chances → Counting chances row t →
+    Counting chances (rows-after (getD chances t 0) row) (t + 1)
+unfolding rows-after S
+counting-rows-turn chances h row t l c =
+    record {
+      parts =
+          whole-parts (count-month down P (at (row .lower))) (count-month up P (at (row .upper)))
+          (count-after-le down 0 down-by (omega arith) P (h .each t) (at (row .lower)) (c .parts .lower-parts .each))
+          (count-after-le up (S - 1) up-by (omega arith) P (h .each t) (at (row .upper)) (c .parts .upper-parts .each));
+      lower-ahead = ahead-turn down chances (row .lower) t l (c .lower-ahead);
+      upper-ahead = ahead-turn up chances (row .upper) t l (c .upper-ahead);
+    }
+  where
+    P : ℕ
+    P = getD chances t 0
+
+pub counting-rows-end : (chances : List ℕ) (row : CountRow) (t : ℕ) → t ≡ length chances → Counting chances row t → row ≡ count-rows chances
+unfolding count-rows
+counting-rows-end chances row t e c =
+    let low : row .lower ≡ tabulate places (count-row down chances) = ahead-end down chances (row .lower) t e (c .parts .lower-length) (c .lower-ahead) in
+    let high : row .upper ≡ tabulate places (count-row up chances) = ahead-end up chances (row .upper) t e (c .parts .upper-length) (c .upper-ahead) in
+    λ i. record { lower = low i; upper = high i }
+
+-- the answer of a refusal, and of the rows of a plan's chances
+pub count-refused :
+    (h : Head) (row : List ℕ) (n : ℕ) (rows : CountRow) → n ≡ plan-refusal h row → (n ≡ 0 → ⊥) → rows ≡ zero-rows →
+    _≡_ {A = CountAnswer} (record { refusal = n; row = rows }) (count-answer h row)
+unfolding count-answer
+count-refused h row n rows e ne er = rw (er, ← e, ne-eqb n 0 ne)
+
+pub chances-are : (h : Head) (row : List ℕ) → plan-of h row .chances ≡ take (h .months) row
+unfolding plan-of
+chances-are h row = refl
+
+module _ (h : Head) (row : List ℕ) (accepted : Accepted h row) (rows : CountRow) (are : rows ≡ count-rows (plan-of h row .chances)) where
+  pub count-given : _≡_ {A = CountAnswer} (record { refusal = 0; row = rows }) (count-answer h row)
+  unfolding count-answer
+  count-given = rw (are, accepted)
+
+  pub count-encloses :
+      (k : ℕ) → k < places → Encloses (plan-of h row) (exact-count (plan-of h row) k) (getD (rows .lower) k 0) (getD (rows .upper) k 0)
+  unfolding count-rows
+  count-encloses k l =
+      let lower : getD (rows .lower) k 0 ≡ count-lower (plan-of h row) k =
+      ap (λ r. getD (r .lower) k 0) are ∙ getD-tabulate places (count-row down (plan-of h row .chances)) k l in
+      let upper : getD (rows .upper) k 0 ≡ count-upper (plan-of h row) k =
+      ap (λ r. getD (r .upper) k 0) are ∙ getD-tabulate places (count-row up (plan-of h row .chances)) k l in
+      rw (lower, upper) (count-enclosure h row accepted k)

@@ -1,0 +1,63 @@
+-- `count_rows` meets its contract. The invariant: the months still to come make the count row of the rows so far (`Counting`).
+use Prim.Native.Nat.{_≤_, _-_}
+use native.Mathlib.Omega.{arith}
+use lib.ListN.{length}
+use Rattle.engine.proofs.CountLaws.{Counting, counting-rows-start, counting-rows-turn, counting-rows-end}
+use Rattle.engine.proofs.counts.count_rows.Statement.{statement}
+use Rattle.engine.proofs.counts.count_rows.Tie as tie
+
+abbrev Inv-loop : tie.InvT-loop
+Inv-loop chances row₀ t₀ row t = (t ≤ length chances) × Counting chances row t
+
+abbrev μ-loop : tie.MeasureT-loop
+μ-loop chances row₀ t₀ row t = length chances - t
+
+first-rows-requires : tie.Need-first-rows-requires Inv-loop μ-loop
+first-rows-requires c κs = tt
+
+loop-holds : tie.Need-loop-holds Inv-loop μ-loop
+loop-holds c = (omega arith, rw (c .first-rows .ensures) (counting-rows-start (c .before .before .args .chances .now)))
+
+mul-month : tie.Need-mul-month Inv-loop μ-loop
+mul-month c = omega arith
+
+shared-slice-read-month : tie.Need-shared-slice-read-month Inv-loop μ-loop
+shared-slice-read-month c = omega arith
+
+month-requires : tie.Need-month-requires Inv-loop μ-loop
+month-requires c κs =
+    let loop = c .before .before .loop in
+    (loop .inv .1 .parts, c .before .before .before .before .before .pre .each (loop .t))
+
+add-t : tie.Need-add-t Inv-loop μ-loop
+add-t c = omega arith
+
+loop-less : tie.Need-loop-less Inv-loop μ-loop
+loop-less c = omega arith
+
+loop-again : tie.Need-loop-again Inv-loop μ-loop
+loop-again c =
+    let loop = c .before .before .before .loop in
+    let start = c .before .before .before .before .before .before in (
+      omega arith,
+      rw (c .month .ensures) (counting-rows-turn (start .args .chances .now) (start .pre) (loop .row) (loop .t) (omega arith) (loop .inv .1)),
+    )
+
+returns : tie.Need-returns Inv-loop μ-loop
+returns c = counting-rows-end (c .before .before .before .before .args .chances .now) (c .before .loop .row) (c .before .loop .t) (omega arith) (c .before .loop .inv .1)
+
+pub count-rows-spec : {M : Type 1} → statement M
+count-rows-spec =
+    tie.close
+    (tie.spec
+    Inv-loop
+    μ-loop
+    first-rows-requires
+    loop-holds
+    mul-month
+    shared-slice-read-month
+    month-requires
+    add-t
+    loop-less
+    loop-again
+    returns)

@@ -1,0 +1,19 @@
+-- `first_rows` meets its contract, by computation.
+use mathlib.Core.Path.{refl}
+use Rattle.model.specs.Scale.{S}
+use Rattle.model.specs.CountRow.{no-months, counted, count-row}
+use Rattle.engine.specs.Rows.{tabulate}
+use Rattle.engine.specs.Answers.{count-rows}
+use borrow.Author.Needs.{needs}
+use Rattle.engine.proofs.counts.first_rows.Statement.{statement}
+use Rattle.engine.proofs.counts.first_rows.Tie as tie
+
+array-write-row : tie.Need-array-write-row
+array-write-row c = search needs
+
+returns : tie.Need-returns
+unfolding count-rows count-row counted no-months tabulate S
+returns c = refl
+
+pub first-rows-spec : {M : Type 1} → statement M
+first-rows-spec = tie.close (tie.spec array-write-row returns)

@@ -1,0 +1,75 @@
+// What each of the four questions needs, and when it is turned away.
+use model::Ask;
+use model::Question;
+use model::limits;
+ghost use mathlib.Core.Path.{_≡_};
+ghost use mathlib.Core.Bool.{false};
+ghost use Rattle.model.specs.Refusal.{outside, ask-refusal};
+ghost use Rattle.engine.specs.Shapes.{shape-of};
+use crate::rows::Shape;
+
+fn is_outside(question: Question) -> bool
+    ensures { λ r. ⌜ r ≡ outside question ⌝ }
+{
+    match question {
+        Question::Survive => false,
+        Question::Both(k) => limits::CLAIMS < k,
+        Question::High(level) => limits::LEVEL < level,
+        Question::Low(level) => limits::LEVEL < level,
+    }
+}
+
+// The rows that a question needs, each of `width` levels.
+pub fn shape_of(question: Question, width: usize) -> Shape
+    requires { ⌜ outside question ≡ false ⌝ }
+    ensures { λ r. ⌜ r ≡ shape-of question width ⌝ }
+{
+    match question {
+        Question::Survive => Shape {
+            rows: 1,
+            counted: false,
+            low: 0,
+            above: width,
+        },
+        Question::Both(k) => Shape {
+            rows: k + 1,
+            counted: true,
+            low: 0,
+            above: width,
+        },
+        Question::High(level) => Shape {
+            rows: 1,
+            counted: false,
+            low: 0,
+            above: level + 1,
+        },
+        Question::Low(level) => Shape {
+            rows: 1,
+            counted: false,
+            low: level,
+            above: width,
+        },
+    }
+}
+
+// The checks of the plan, then 10 question and 11 workspace.
+pub fn ask_refusal(ask: Ask, row: &[u32], room: usize) -> u32
+    ensures { λ r. ⌜ r ≡ ask-refusal ask (now (row .entry)) room ⌝ }
+{
+    let head = ask.head;
+    let question = ask.question;
+    let refused = plan::plan_refusal(head, row);
+    if refused != 0 {
+        return refused;
+    }
+    if is_outside(question) {
+        return 10;
+    }
+    let width = head.opening + head.months + 1;
+    let shape = shape_of(question, width);
+    let count = shape.rows;
+    if room < 2 * width * count {
+        return 11;
+    }
+    0
+}

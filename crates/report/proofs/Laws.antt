@@ -1,0 +1,139 @@
+-- Laws of the report's lines: none is longer than the room for one. Assumes nothing.
+use Prim.Native.Nat.{ℕ, _+_, _*_, _<_, _≤_, min}
+use mathlib.Core.Path.{_≡_, refl, _∙_}
+use mathlib.Core.Bool.{false}
+use mathlib.Core.List.{List, [], _∷_}
+use native.Mathlib.Omega.{arith}
+use native.Mathlib.Nat.{min-le-right}
+use lib.ListN.{length, take, length-append}
+use lib.Seq.{take-at}
+use borrow.Author.Tests.{le-ltb, ne-eqb}
+use Rattle.model.specs.declared.Head.{Head}
+use Rattle.model.specs.declared.Ask.{Ask}
+use Rattle.model.specs.declared.Question.{Question}
+use Rattle.model.specs.declared.Question.the-variants.{Survive, Both, High, Low}
+use Rattle.model.specs.Limits.{max-months, max-opening, max-claims, max-level, places}
+use Rattle.model.specs.Plan.{Plan, plan-of, row-length}
+use Rattle.model.specs.Format.{head-of, row-of}
+use Rattle.model.specs.Bounds.{lower, upper}
+use Rattle.model.specs.Refusal.{outside, workspace-needed, ask-refusal, read-refusal, Accepted}
+use Rattle.model.proofs.Facts.{facts}
+use Rattle.codec.specs.Answers.{row-after}
+use Rattle.codec.proofs.Answered.{reads-row}
+use Rattle.codec.proofs.Refusals.{row-is}
+use Rattle.engine.specs.Answers.{answer, count-answer, count-rows}
+use Rattle.engine.proofs.RowLaws.{length-tabulate, getD-tabulate}
+use Rattle.engine.proofs.AskLaws.{workspace-fits, ask-refusal-is}
+use Rattle.text.specs.Text.{space, line, joined, Appended}
+use Rattle.text.proofs.Laws.{entry-at-most, line-at-most, joined-at-most, joined-same}
+use Rattle.report.specs.Report.{refused-word, row-room, plan-report, report-of, months-word, opening-word, sizes-word, head-line, head-room, word-of, claims-word, bounds-line, question-line, question-at, question-lines, claims-line, claims-at, claims-of, claims-lines, both-lines, high-lines, line-room, both-most, high-most, CountsOf, workspace-room}
+
+bounds-short : (q : Question) (low high : ℕ) → length (bounds-line q low high) ≤ line-room
+bounds-short Survive low high = omega (arith, line-at-most (word-of Survive) (low ∷ high ∷ []))
+bounds-short (Both k) low high = omega (arith, line-at-most (word-of (Both k)) (k ∷ low ∷ high ∷ []))
+bounds-short (High L) low high = omega (arith, line-at-most (word-of (High L)) (L ∷ low ∷ high ∷ []))
+bounds-short (Low L) low high = omega (arith, line-at-most (word-of (Low L)) (L ∷ low ∷ high ∷ []))
+
+pub question-short : (p : Plan) (q : Question) → length (question-line p q) ≤ line-room
+unfolding question-line
+question-short p q = bounds-short q _ _
+
+pub claims-short : (k low high : ℕ) → length (claims-line k low high) ≤ line-room
+claims-short k low high = omega (arith, line-at-most claims-word (k ∷ low ∷ high ∷ []))
+
+-- where a question's lines and those of the count row end
+questions-end :
+    (p : Plan) (q : Question) (first count : ℕ) {b b′ : List ℕ} {at end : ℕ}
+    → Appended b at (question-lines p q first count) b′ end → end ≤ at + count * line-room
+unfolding question-lines
+questions-end p q first count e = omega (arith, e .ends, joined-at-most (question-at p q first) line-room (λ i. question-short _ _) count)
+
+-- the lines of rows that hold the count row are its lines
+pub claims-are : {p : Plan} {lowers uppers : List ℕ} (n : ℕ) → n < places → CountsOf p lowers uppers → joined (n + 1) (claims-at lowers uppers) ≡ claims-lines p n
+unfolding claims-lines
+claims-are n h counts =
+    joined-same (n + 1) (λ k l. rw (counts .lowers-are k (omega arith), counts .uppers-are k (omega arith)))
+
+-- a number within the limits is not outside
+pub both-within : (k : ℕ) → k ≤ max-claims → outside (Both k) ≡ false
+unfolding outside
+both-within k l = le-ltb max-claims k l
+
+pub high-within : (L : ℕ) → L ≤ max-level → outside (High L) ≡ false
+unfolding outside
+high-within L l = le-ltb max-level L l
+
+pub low-within : (L : ℕ) → L ≤ max-level → outside (Low L) ≡ false
+unfolding outside
+low-within L l = le-ltb max-level L l
+
+pub survive-within : outside Survive ≡ false
+unfolding outside
+survive-within = refl
+
+-- where the head line, a question's line and the lines of the count row end
+pub head-ends : (h : Head) {b b′ : List ℕ} {at end : ℕ} → Appended b at (head-line h) b′ end → end ≤ at + head-room
+unfolding head-line
+head-ends h e =
+    omega (
+      arith,
+      simp length-append at (e .ends),
+      entry-at-most months-word (h .months ∷ []),
+      entry-at-most (space ∷ opening-word) (h .opening ∷ []),
+      line-at-most (space ∷ sizes-word) (h .sizes ∷ []),
+    )
+
+pub question-ends : (p : Plan) (q : Question) {b b′ : List ℕ} {at end : ℕ} → Appended b at (question-line p q) b′ end → end ≤ at + line-room
+question-ends p q e = omega (arith, e .ends, question-short p q)
+
+pub claims-end : (p : Plan) (n : ℕ) {b b′ : List ℕ} {at end : ℕ} → Appended b at (claims-lines p n) b′ end → end ≤ at + (n + 1) * line-room
+unfolding claims-lines
+claims-end p n e = omega (arith, e .ends, joined-at-most (claims-of p) line-room (λ k. claims-short k _ _) (n + 1))
+
+-- What asking answers on an accepted plan
+pub asked :
+    (a : Ask) (row : List ℕ) (room : ℕ)
+    → Accepted (a .head) row
+    → outside (a .question) ≡ false
+    → workspace-room ≤ room
+    → answer a row room ≡ record { refusal = 0; lower = lower (plan-of (a .head) row) (a .question); upper = upper (plan-of (a .head) row) (a .question) }
+unfolding answer
+asked a row room accepted within enough =
+    let plan = facts (a .head) row accepted in
+    let needed : workspace-needed a ≤ room = omega (arith, workspace-fits a (plan .months-fit) (plan .opening-fits) within) in
+    let none : ask-refusal a row room ≡ 0 = ask-refusal-is a row room ∙ (rw (accepted, within, le-ltb room _ needed)) in
+    rw none
+
+-- and what counting answers
+pub counted : (h : Head) (row : List ℕ) → Accepted h row → CountsOf (plan-of h row) (count-answer h row .row .lower) (count-answer h row .row .upper)
+unfolding count-answer count-rows
+counted h row accepted =
+    rw accepted
+    (record {
+      lowers-long = length-tabulate places _;
+      uppers-long = length-tabulate places _;
+      lowers-are = getD-tabulate places _;
+      uppers-are = getD-tabulate places _;
+    })
+
+-- The report of bytes, where the plan is accepted and where it is refused
+pub report-accepted : (bytes : List ℕ) → read-refusal bytes row-room ≡ 0 → report-of bytes ≡ plan-report (head-of bytes) (row-of bytes)
+unfolding report-of
+report-accepted bytes none = rw none
+
+pub report-refused : (bytes : List ℕ) → (read-refusal bytes row-room ≡ 0 → ⊥) → report-of bytes ≡ line refused-word (read-refusal bytes row-room ∷ [])
+unfolding report-of
+report-refused bytes refused = rw (ne-eqb _ 0 refused)
+
+-- what reading leaves in the row is the plan's row, and the rest
+pub row-read :
+    (bytes row : List ℕ) → read-refusal bytes (length row) ≡ 0 → take (row-length (head-of bytes)) (row-after bytes row) ≡ row-of bytes
+row-read bytes row none = rw (reads-row bytes row none) (take-at (row-of bytes) _ _ (row-is bytes))
+
+-- where the groups of lines end
+module _ (p : Plan) (h : Head) {b b′ : List ℕ} {at end : ℕ} where
+  pub both-end : Appended b at (both-lines p h) b′ end → end ≤ at + both-most * line-room
+  both-end e = omega (arith, min-le-right (h .months) max-claims, questions-end p (Both 0) 0 (min (h .months) max-claims + 1) e)
+
+  pub high-end : h .opening ≤ max-opening → h .months ≤ max-months → Appended b at (high-lines p h) b′ end → end ≤ at + high-most * line-room
+  high-end u n e = omega (arith, questions-end p (High 0) 1 (h .opening + h .months) e)

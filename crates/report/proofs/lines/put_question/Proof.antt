@@ -1,0 +1,39 @@
+-- `lines::put_question` meets its contract: the bounds of the line are those that the engine answers. Assumes nothing.
+use borrow.Author.Needs.{needs}
+use Rattle.report.specs.Report.{question-line}
+use Rattle.report.proofs.lines.put_question.Statement.{statement}
+use Rattle.report.proofs.lines.put_question.Tie as tie
+
+bounds-of-requires : tie.Need-bounds-of-requires
+bounds-of-requires c κs = search needs
+
+cast-put-bounds : tie.Need-cast-put-bounds
+cast-put-bounds c = search needs
+
+cast-put-bounds-2 : tie.Need-cast-put-bounds-2
+cast-put-bounds-2 c = search needs
+
+put-bounds-requires : tie.Need-put-bounds-requires
+put-bounds-requires c κs = search needs
+
+same-length : tie.Need-same-length
+same-length c = search needs
+
+same-length-2 : tie.Need-same-length-2
+same-length-2 c = search needs
+
+returns : tie.Need-returns
+unfolding question-line
+returns c = rw (← c .before .before .before .before .before .before .before .before .bounds-of .ensures .0, ← c .before .before .before .before .before .before .before .before .bounds-of .ensures .1) (c .before .before .put-bounds .ensures)
+
+pub put-question-spec : {M : Type 1} → statement M
+put-question-spec =
+    tie.close
+    (tie.spec
+    bounds-of-requires
+    cast-put-bounds
+    cast-put-bounds-2
+    put-bounds-requires
+    same-length
+    same-length-2
+    returns)

@@ -1,0 +1,37 @@
+-- `report::report` meets its contract: the text is appended to none. Assumes nothing.
+use mathlib.Core.Path.{sym}
+use borrow.Author.Needs.{needs}
+use lib.Seq.{length-take-le}
+use Rattle.report.proofs.report.Statement.{statement}
+use Rattle.report.proofs.report.Tie as tie
+
+row-requires : tie.Need-row-requires
+row-requires c κs = search needs
+
+workspace-requires : tie.Need-workspace-requires
+workspace-requires c κs = search needs
+
+slice-aggregate-put-report : tie.Need-slice-aggregate-put-report
+slice-aggregate-put-report c = search needs
+
+slice-aggregate-put-report-2 : tie.Need-slice-aggregate-put-report-2
+slice-aggregate-put-report-2 c = search needs
+
+put-report-requires : tie.Need-put-report-requires
+put-report-requires c κs = search needs
+
+returns : tie.Need-returns
+returns c =
+    let put = c .before .before .put-report .ensures in
+    (put .holds, (put .inside, sym (length-take-le _ _ (put .inside))))
+
+pub report-spec : {M : Type 1} → statement M
+report-spec =
+    tie.close
+    (tie.spec
+    row-requires
+    workspace-requires
+    slice-aggregate-put-report
+    slice-aggregate-put-report-2
+    put-report-requires
+    returns)

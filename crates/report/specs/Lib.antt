@@ -1,0 +1,2 @@
+-- The reserve report as text.
+pub mod Report

@@ -1,0 +1,91 @@
+// The reserve report of document 01: from the bytes of a plan to the text of its report.
+mod answers;
+mod groups;
+mod lines;
+
+use model::Head;
+use model::Question;
+use model::limits;
+use text::put_line;
+ghost use mathlib.Core.Path.{_≡_};
+ghost use Prim.Native.Nat.{_≤_};
+ghost use mathlib.Core.List.{[], _∷_};
+ghost use lib.ListN.{length, take};
+ghost use Rattle.model.specs.Plan.{row-length};
+ghost use Rattle.model.specs.Refusal.{Accepted};
+ghost use Rattle.text.specs.Text.{line, Appended};
+ghost use Rattle.report.specs.Report.{row-room, text-room, workspace-room, refused-word, plan-report, report-of};
+
+const ROW: usize = limits::MONTHS + limits::SIZES + 1;
+
+const WORKSPACE: usize = 2 * (limits::OPENING + limits::MONTHS + 1) * (limits::CLAIMS + 1);
+
+// Room for every report: the longest is below 39,000 bytes.
+pub const TEXT: usize = 65536;
+
+// Writes the report on a plan's bytes to the start of the text, and answers how long it is.
+pub fn report(bytes: &[u8], text: &mut [u8; TEXT]) -> usize
+    ensures written { λ r. ⌜ take r (now (text .exit)) ≡ report-of (now (bytes .entry)) ⌝ }
+    ensures within { λ r. ⌜ (r ≤ length (now (text .exit))) × (r ≡ length (take r (now (text .exit)))) ⌝ }
+{
+    let mut row = row();
+    let mut workspace = workspace();
+    put_report(text, bytes, &mut row, &mut workspace)
+}
+
+// The `ensures` gives the length, which lending the array needs.
+fn row() -> [u32; ROW]
+    ensures { λ r. ⌜ row-room ≡ length r ⌝ }
+{
+    [0; ROW]
+}
+
+fn workspace() -> [u32; WORKSPACE]
+    ensures { λ r. ⌜ workspace-room ≡ length r ⌝ }
+{
+    [0; WORKSPACE]
+}
+
+fn put_report(text: &mut [u8], bytes: &[u8], row: &mut [u32], workspace: &mut [u32]) -> usize
+    requires { ⌜ text-room ≤ length (now text) ⌝ }
+    requires { ⌜ row-room ≡ length (now row) ⌝ }
+    requires { ⌜ workspace-room ≤ length (now workspace) ⌝ }
+    ensures { λ r. ⌜ Appended (now (text .entry)) 0 (report-of (now (bytes .entry))) (now (text .exit)) r ⌝ }
+{
+    let answer = codec::read(bytes, row);
+    let refusal = answer.refusal;
+    if refusal != 0 {
+        return put_refused(text, refusal);
+    }
+    put_accepted(text, answer.head, row, workspace)
+}
+
+fn put_refused(text: &mut [u8], refusal: u32) -> usize
+    requires { ⌜ text-room ≤ length (now text) ⌝ }
+    ensures { λ r. ⌜ Appended (now (text .entry)) 0 (line refused-word (refusal ∷ [])) (now (text .exit)) r ⌝ }
+{
+    put_line(text, 0, b"refused", &[refusal as u64])
+}
+
+// The report of an accepted plan, whose row is the first part of the lent one.
+fn put_accepted(text: &mut [u8], head: Head, row: &[u32], workspace: &mut [u32]) -> usize
+    requires { ⌜ Accepted head (take (row-length head) (now row)) ⌝ }
+    requires { ⌜ workspace-room ≤ length (now workspace) ⌝ }
+    requires { ⌜ text-room ≤ length (now text) ⌝ }
+    ensures { λ r. ⌜ Appended (now (text .entry)) 0 (plan-report head (take (row-length head) (now (row .entry)))) (now (text .exit)) r ⌝ }
+{
+    let used = head.months + head.sizes + 1;
+    put_plan(text, head, &row[..used], workspace)
+}
+
+fn put_plan(text: &mut [u8], head: Head, row: &[u32], workspace: &mut [u32]) -> usize
+    requires { ⌜ Accepted head (now row) ⌝ }
+    requires { ⌜ workspace-room ≤ length (now workspace) ⌝ }
+    requires { ⌜ text-room ≤ length (now text) ⌝ }
+    ensures { λ r. ⌜ Appended (now (text .entry)) 0 (plan-report head (now (row .entry))) (now (text .exit)) r ⌝ }
+{
+    let end = lines::put_head(text, 0, head);
+    let end = lines::put_question(text, end, head, Question::Survive, row, workspace);
+    let end = groups::put_counts(text, end, head, row);
+    groups::put_numbered(text, end, head, row, workspace)
+}

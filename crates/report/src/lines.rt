@@ -1,0 +1,132 @@
+// The lines of the report, appended to a text.
+ghost use mathlib.Core.Path.{_≡_};
+ghost use mathlib.Core.Bool.{false};
+ghost use Prim.Native.Nat.{ℕ, _+_, _*_, _^_, _<_, _≤_};
+ghost use lib.ListN.{length};
+ghost use Rattle.model.specs.Plan.{plan-of};
+ghost use Rattle.model.specs.Refusal.{Accepted, outside};
+ghost use Rattle.text.specs.Text.{joined, Appended};
+ghost use Rattle.report.specs.Report.{head-line, head-room, bounds-line, question-line, question-lines, claims-line, claims-at, line-room, workspace-room};
+ghost use Rattle.report.specs.Report.{numbered as Report·numbered};
+use crate::answers;
+use model::Head;
+use model::Question;
+use text::put_entry;
+use text::put_line;
+
+pub fn put_head(text: &mut [u8], at: usize, head: Head) -> usize
+    requires { ⌜ at + head-room ≤ length (now text) ⌝ }
+    ensures { λ r. ⌜ Appended (now (text .entry)) at (head-line head) (now (text .exit)) r ⌝ }
+{
+    let months = [head.months as u64];
+    let opening = [head.opening as u64];
+    let sizes = [head.sizes as u64];
+    let end = put_entry(text, at, b"months", &months);
+    let end = put_entry(text, end, b" opening", &opening);
+    put_line(text, end, b" sizes", &sizes)
+}
+
+// A question's line, from its bounds.
+pub fn put_bounds(text: &mut [u8], at: usize, question: Question, lower: u64, upper: u64) -> usize
+    requires { ⌜ at + line-room ≤ length (now text) ⌝ }
+    ensures { λ r. ⌜ Appended (now (text .entry)) at (bounds-line question lower upper) (now (text .exit)) r ⌝ }
+{
+    match question {
+        Question::Survive => put_line(text, at, b"survive", &[lower, upper]),
+        Question::Both(k) => put_line(text, at, b"both", &[k as u64, lower, upper]),
+        Question::High(level) => put_line(text, at, b"high", &[level as u64, lower, upper]),
+        Question::Low(level) => put_line(text, at, b"low", &[level as u64, lower, upper]),
+    }
+}
+
+// A question's line, as the engine answers it.
+pub fn put_question(
+    text: &mut [u8],
+    at: usize,
+    head: Head,
+    question: Question,
+    row: &[u32],
+    workspace: &mut [u32],
+) -> usize
+    requires { ⌜ Accepted head (now row) ⌝ }
+    requires { ⌜ outside question ≡ false ⌝ }
+    requires { ⌜ workspace-room ≤ length (now workspace) ⌝ }
+    requires { ⌜ at + line-room ≤ length (now text) ⌝ }
+    ensures { λ r. ⌜ Appended (now (text .entry)) at (question-line (plan-of head (now (row .entry))) question) (now (text .exit)) r ⌝ }
+{
+    let bounds = answers::bounds_of(head, question, row, workspace);
+    put_bounds(text, at, question, bounds.lower as u64, bounds.upper as u64)
+}
+
+// The same question with another number.
+fn numbered(question: Question, x: usize) -> Question
+    ensures { λ r. ⌜ r ≡ Report·numbered question x ⌝ }
+{
+    match question {
+        Question::Survive => Question::Survive,
+        Question::Both(_) => Question::Both(x),
+        Question::High(_) => Question::High(x),
+        Question::Low(_) => Question::Low(x),
+    }
+}
+
+// A question's lines, its number rising from the first.
+pub fn put_questions(
+    text: &mut [u8],
+    at: usize,
+    head: Head,
+    question: Question,
+    first: usize,
+    count: usize,
+    row: &[u32],
+    workspace: &mut [u32],
+) -> usize
+    requires { ⌜ Accepted head (now row) ⌝ }
+    requires { ⌜ ((i : ℕ) → i < count → outside (Report·numbered question (first + i)) ≡ false) ⌝ }
+    requires { ⌜ workspace-room ≤ length (now workspace) ⌝ }
+    requires { ⌜ (first + count < 2 ^ 64) × (at + count * line-room ≤ length (now text)) ⌝ }
+    ensures { λ r. ⌜ Appended (now (text .entry)) at (question-lines (plan-of head (now (row .entry))) question first count) (now (text .exit)) r ⌝ }
+{
+    let mut end = at;
+    let mut i = 0;
+    while i < count {
+        end = put_question(
+            text,
+            end,
+            head,
+            numbered(question, first + i),
+            row,
+            workspace,
+        );
+        i += 1;
+    }
+    end
+}
+
+fn put_claims_line(text: &mut [u8], at: usize, k: usize, lower: u64, upper: u64) -> usize
+    requires { ⌜ at + line-room ≤ length (now text) ⌝ }
+    ensures { λ r. ⌜ Appended (now (text .entry)) at (claims-line k lower upper) (now (text .exit)) r ⌝ }
+{
+    put_line(text, at, b"claims", &[k as u64, lower, upper])
+}
+
+// The lines of the count row, for no claims to as many as there are months.
+pub fn put_claims(text: &mut [u8], at: usize, months: usize, lower: &[u32], upper: &[u32]) -> usize
+    requires { ⌜ (months < length (now lower)) × (months < length (now upper)) ⌝ }
+    requires { ⌜ at + (months + 1) * line-room ≤ length (now text) ⌝ }
+    ensures { λ r. ⌜ Appended (now (text .entry)) at (joined (months + 1) (claims-at (now (lower .entry)) (now (upper .entry)))) (now (text .exit)) r ⌝ }
+{
+    let mut end = at;
+    let mut k = 0;
+    while k <= months {
+        end = put_claims_line(text, end, k, wide(lower[k]), wide(upper[k]));
+        k += 1;
+    }
+    end
+}
+
+fn wide(x: u32) -> u64
+    ensures { λ r. ⌜ r ≡ x ⌝ }
+{
+    x as u64
+}

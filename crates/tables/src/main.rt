@@ -1,0 +1,91 @@
+// Survival of the plans on standard input, in ten-thousandths of both bounds: the figures of source document 000's tables 2 and 3, which
+// docs/src/tables.py has. A plan comes as two bytes with its length, most significant first, and its bytes.
+use libc::STDIN_FILENO;
+use libc::STDOUT_FILENO;
+use model::Ask;
+use model::Head;
+use model::Question;
+use model::limits;
+ghost use mathlib.Core.Path.{_≡_};
+ghost use lib.ListN.{length};
+
+const BYTES: usize = 1247;
+
+const ROW: usize = limits::MONTHS + limits::SIZES + 1;
+
+const WORKSPACE: usize = 2 * (limits::OPENING + limits::MONTHS + 1);
+
+// A proved loop has to end, and nothing says that the input does, so the plans are counted down.
+fn main() {
+    let mut left = u64::MAX;
+    while left > 0 {
+        if !next_plan() {
+            return;
+        }
+        left -= 1;
+    }
+}
+
+// Whether there was a plan.
+fn next_plan() -> bool {
+    let mut size = [0u8; 2];
+    if io::read_full(STDIN_FILENO, &mut size) < 2 {
+        return false;
+    }
+    let length = (wide(size[0]) << 8) | wide(size[1]);
+    if BYTES < length {
+        return false;
+    }
+    let mut bytes = bytes();
+    read_plan(&mut bytes[..length]);
+    true
+}
+
+fn wide(byte: u8) -> usize {
+    byte as usize
+}
+
+// The `ensures` gives the length, which lending a part of the array needs.
+fn bytes() -> [u8; BYTES]
+    ensures { λ r. ⌜ 1247 ≡ length r ⌝ }
+{
+    [0; BYTES]
+}
+
+fn row() -> [u32; ROW]
+    ensures { λ r. ⌜ 321 ≡ length r ⌝ }
+{
+    [0; ROW]
+}
+
+fn read_plan(bytes: &mut [u8]) {
+    io::read_full(STDIN_FILENO, bytes);
+    let mut row = row();
+    let plan = codec::read(bytes, &mut row);
+    let head = plan.head;
+    let months = head.months;
+    let sizes = head.sizes;
+    if limits::MONTHS < months {
+        return;
+    }
+    if limits::SIZES < sizes {
+        return;
+    }
+    let used = months + sizes + 1;
+    print_survival(head, &row[..used]);
+}
+
+fn print_survival(head: Head, row: &[u32]) {
+    let mut workspace = [0u32; WORKSPACE];
+    let question = Question::Survive;
+    let answer = engine::ask(Ask { head, question }, row, &mut workspace);
+    io::print_decimal(STDOUT_FILENO, rounded(answer.lower));
+    io::write_all(STDOUT_FILENO, b" ");
+    io::print_decimal(STDOUT_FILENO, rounded(answer.upper));
+    io::write_all(STDOUT_FILENO, b"\n");
+}
+
+// Parts of the scale in ten-thousandths, to the nearest.
+fn rounded(x: u32) -> u64 {
+    (x as u64 * 10000 + model::SCALE as u64 / 2) / model::SCALE as u64
+}

@@ -1,0 +1,2 @@
+-- The lines of the reserve report as bytes.
+pub mod Text

@@ -1,0 +1,57 @@
+-- `record::read_row` is safe and ends: the row fits, and four bytes for each number. Assumes nothing.
+use mathlib.Core.Path.{sym}
+use native.Mathlib.Omega.{arith}
+use lib.Seq.{length-take-le}
+use lib.ListN.{length-take}
+use borrow.Author.Needs.{needs}
+use Rattle.vectors.proofs.record.read_row.Statement.{statement}
+use Rattle.vectors.proofs.record.read_row.Tie as tie
+
+returns : tie.Need-returns
+returns c = search needs
+
+returns-2 : tie.Need-returns-2
+returns-2 c = search needs
+
+bytes-requires : tie.Need-bytes-requires
+bytes-requires c κs = search needs
+
+mul-bytes : tie.Need-mul-bytes
+mul-bytes c = search needs
+
+array-borrow-prefix-bytes : tie.Need-array-borrow-prefix-bytes
+array-borrow-prefix-bytes c = search needs
+
+slice-aggregate-read-numbers : tie.Need-slice-aggregate-read-numbers
+slice-aggregate-read-numbers c = sym (length-take-le _ _ (search needs))
+
+slice-relend-prefix-read-numbers : tie.Need-slice-relend-prefix-read-numbers
+slice-relend-prefix-read-numbers c = search needs
+
+slice-aggregate-read-numbers-2 : tie.Need-slice-aggregate-read-numbers-2
+slice-aggregate-read-numbers-2 c = sym (length-take-le _ _ (search needs))
+
+read-numbers-requires : tie.Need-read-numbers-requires
+read-numbers-requires c κs = simp length-take (omega arith)
+
+same-length : tie.Need-same-length
+same-length c = search needs
+
+returns-3 : tie.Need-returns-3
+returns-3 c = search needs
+
+pub read-row-spec : {M : Type 1} → statement M
+read-row-spec =
+    tie.close
+    (tie.spec
+    returns
+    returns-2
+    bytes-requires
+    mul-bytes
+    array-borrow-prefix-bytes
+    slice-aggregate-read-numbers
+    slice-relend-prefix-read-numbers
+    slice-aggregate-read-numbers-2
+    read-numbers-requires
+    same-length
+    returns-3)

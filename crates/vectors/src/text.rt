@@ -1,0 +1,58 @@
+// The parts of a line of the output, with one space between.
+use model::limits::PLACES;
+
+pub fn first(x: u64) {
+    io::print_decimal(libc::STDOUT_FILENO, x);
+}
+
+pub fn next(x: u64) {
+    io::write_all(libc::STDOUT_FILENO, b" ");
+    io::print_decimal(libc::STDOUT_FILENO, x);
+}
+
+pub fn end() {
+    io::write_all(libc::STDOUT_FILENO, b"\n");
+}
+
+// Both bounds of each place.
+pub fn count_row(lower: &[u32; PLACES], upper: &[u32; PLACES]) {
+    let mut k = 0;
+    while k < PLACES {
+        next(wide(lower[k]));
+        next(wide(upper[k]));
+        k += 1;
+    }
+}
+
+fn wide(x: u32) -> u64 {
+    x as u64
+}
+
+// Lent bytes, in hexadecimal.
+pub fn bytes(memory: &[u8]) {
+    let mut i = 0;
+    while i < memory.len() {
+        io::write_all(libc::STDOUT_FILENO, b" ");
+        io::print_hex(libc::STDOUT_FILENO, byte(memory[i]), 2);
+        i += 1;
+    }
+}
+
+fn byte(x: u8) -> u64 {
+    x as u64
+}
+
+// Lent numbers, as a checksum that depends on each number and its place.
+pub fn memory(numbers: &[u32]) {
+    let mut sum: u64 = 0;
+    let mut i = 0;
+    while i < numbers.len() {
+        sum = more(sum, numbers[i]);
+        i += 1;
+    }
+    next(sum);
+}
+
+fn more(sum: u64, x: u32) -> u64 {
+    (sum % 1000000007 * 31 + x as u64) % 1000000007
+}
