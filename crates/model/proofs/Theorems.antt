@@ -12,7 +12,7 @@ use borrow.Author.Tests.{le-leb}
 use Rattle.model.specs.declared.Head.{Head}
 use Rattle.model.specs.declared.Question.{Question}
 use Rattle.model.specs.declared.Question.the-variants.{Survive}
-use Rattle.model.specs.Scale.{S, Rounding}
+use Rattle.model.specs.Scale.{S, Rounding, down, up}
 use Rattle.model.specs.Sums.{product, total}
 use Rattle.model.specs.Plan.{Plan, plan-of, horizon, sizes, nth}
 use Rattle.model.specs.History.{History, claim, known, at-most}
@@ -23,11 +23,11 @@ use Rattle.model.specs.FirstClaim.{some-claim, first-claim-survival}
 use Rattle.model.specs.Bounds.{bound, lower, upper, count-lower, count-upper, Encloses}
 use Rattle.model.specs.Refusal.{Accepted}
 use Rattle.model.proofs.Facts.{facts}
-use Rattle.model.proofs.Month.{downwards, upwards, Within, MonthFits}
+use Rattle.model.proofs.Month.{downwards, upwards, Within, down-within, up-within, MonthFits}
 use Rattle.model.proofs.Values.{values-enclose, values-fit, values-gap, last-fits, months-fit}
 use Rattle.model.proofs.Histories.{weight-is, weigh-all}
 use Rattle.model.proofs.Questions.{unrounded-is-exact}
-use Rattle.model.proofs.Counts.{unrounded-count-is-exact, count-row-encloses, count-row-fits, count-row-gap}
+use Rattle.model.proofs.Counts.{unrounded-count-is-exact, CountFits, count-month-fits, count-row-encloses, count-row-fits, count-row-gap}
 use Rattle.model.proofs.FirstClaimLaw.{no-claim-is, unrounded-is-first-claim}
 use Rattle.model.proofs.Tail.{ruins}
 
@@ -123,24 +123,42 @@ module _ (h : Head) (row : List ℕ) (accepted : Accepted h row) where
       u : ℕ
       u = p .opening
 
-  -- every bound is at most S, and the lower is at most the upper
-  pub bound-fits : (round : Rounding) → Within round → (q : Question) → bound round p q ≤ S
+  -- every bound is at most S
+  bound-fits : (round : Rounding) → Within round → (q : Question) → bound round p q ≤ S
   unfolding bound value
   bound-fits round within q =
       values-fit round within (p .severity) severity-fits (rule-of q) (last-fits q) (p .chances) chances-fit (claims-of q) (p .opening)
 
-  pub count-fits : (round : Rounding) → Within round → (k : ℕ) → count-row round (p .chances) k ≤ S
-  count-fits round within k = count-row-fits round within (p .chances) chances-fit k
+  pub bounds-fit : (q : Question) → (lower p q ≤ S) × (upper p q ≤ S)
+  bounds-fit q = (bound-fits down down-within q, bound-fits up up-within q)
 
-  -- what a month works out at a level, for month t and k claims left: nothing passes S × S, and S × S + (S − 1) is below 2^60 + 2^30 (`limit`)
-  pub month-limits :
-      (round : Rounding) → Within round → (q : Question) (t k s : ℕ) →
-      MonthFits round (p .severity) (nth (p .chances) t)
-      (rows-after round p q t k)
-      (claimed-row (rows-after round p q t) (rule-of q .after-claim k)) s
-  month-limits round within q t k s =
+  pub counts-fit : (k : ℕ) → (count-lower p k ≤ S) × (count-upper p k ≤ S)
+  counts-fit k = (count-row-fits down down-within (p .chances) chances-fit k, count-row-fits up up-within (p .chances) chances-fit k)
+
+  -- what month t works out at level s with k claims left: nothing passes S × S, and S × S + (S − 1) is below 2^60 + 2^30 (`Month.limit`)
+  abbrev MonthWithin : Rounding → Question → ℕ → ℕ → ℕ → Type 0
+  MonthWithin round q t k s =
+      MonthFits round (p .severity) (nth (p .chances) t) (rows-after round p q t k) (claimed-row (rows-after round p q t) (rule-of q .after-claim k)) s
+
+  month-within : (round : Rounding) → Within round → (q : Question) (t k s : ℕ) → MonthWithin round q t k s
+  month-within round within q t k s =
       months-fit round within (p .severity) severity-fits (rule-of q) (last-fits q) (nth (p .chances) t) (chance-fits t)
       (drop t (p .chances)) (λ i. rw getD-drop (chances-fit (t + i))) k s
+
+  pub month-limits : (q : Question) (t k s : ℕ) → MonthWithin down q t k s × MonthWithin up q t k s
+  month-limits q t k s = (month-within down down-within q t k s, month-within up up-within q t k s)
+
+  -- the same of month t of the count row, over the row of the months before it
+  abbrev CountWithin : Rounding → ℕ → ℕ → Type 0
+  CountWithin round t k = CountFits round (nth (p .chances) t) (count-row round (take (t - 1) (p .chances))) k
+
+  count-within : (round : Rounding) → Within round → (t k : ℕ) → CountWithin round t k
+  count-within round within t =
+      count-month-fits round within (nth (p .chances) t) (chance-fits t) (count-row round (take (t - 1) (p .chances)))
+      (count-row-fits round within (take (t - 1) (p .chances)) (take-fits S (t - 1) (p .chances) chances-fit))
+
+  pub count-limits : (t k : ℕ) → CountWithin down t k × CountWithin up t k
+  count-limits t k = (count-within down down-within t k, count-within up up-within t k)
 
 -- the lower bound is at most the upper one
 pub ordered : {p : Plan} {W low high : ℕ} → Encloses p W low high → low ≤ high

@@ -10,21 +10,17 @@ use lib.Dec.{ltb}
 use lib.ListN.{length, take}
 use lib.Seq.{take-all, length-take-le}
 use Rattle.model.specs.declared.Head.{Head}
-use Rattle.model.specs.Format.{bits, bits-of, head-bits, bit-length, byte-length, head-of}
+use Rattle.model.specs.Format.{bits, bits-of, byte-length, head-of}
 use Rattle.model.specs.Refusal.{first, head-checks, read-refusal}
 use Rattle.model.proofs.Facts.{head-facts}
+use Rattle.codec.proofs.PlanBits.{longest, byte-length-fits}
 use Rattle.codec.proofs.Refusals.{read-head, read-length}
-use Rattle.text.specs.Text.{line}
+use Rattle.report.specs.Text.{line}
 use Rattle.report.specs.Report.{row-room, refused-word, report-of}
 use Rattle.report.proofs.Laws.{report-refused}
 
--- "The longest plan is 1,247 bytes."
-abbrev longest : ℕ
-longest = 1247
-
 plan-short : (h : Head) → first (head-checks h) ≡ 0 → byte-length h ≤ longest
-unfolding byte-length bit-length head-bits
-plan-short h ok = omega (arith, head-facts h ok .months-fit, head-facts h ok .sizes-fit)
+plan-short h ok = byte-length-fits h (head-facts h ok .months-fit) (head-facts h ok .sizes-fit)
 
 -- the refusal of a head, or 5
 or-length : ℕ → ℕ

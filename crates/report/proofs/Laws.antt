@@ -24,8 +24,8 @@ use Rattle.codec.proofs.Refusals.{row-is}
 use Rattle.engine.specs.Answers.{answer, count-answer, count-rows}
 use Rattle.engine.proofs.RowLaws.{length-tabulate, getD-tabulate}
 use Rattle.engine.proofs.AskLaws.{workspace-fits, ask-refusal-is}
-use Rattle.text.specs.Text.{space, line, joined, Appended}
-use Rattle.text.proofs.Laws.{entry-at-most, line-at-most, joined-at-most, joined-same}
+use Rattle.report.specs.Text.{space, line, joined, Appended}
+use Rattle.report.proofs.TextLaws.{entry-at-most, line-at-most, joined-at-most, joined-same}
 use Rattle.report.specs.Report.{refused-word, row-room, plan-report, report-of, months-word, opening-word, sizes-word, head-line, head-room, word-of, claims-word, bounds-line, question-line, question-at, question-lines, claims-line, claims-at, claims-of, claims-lines, both-lines, high-lines, line-room, both-most, high-most, CountsOf, workspace-room}
 
 bounds-short : (q : Question) (low high : ℕ) → length (bounds-line q low high) ≤ line-room

@@ -1,2 +1,3 @@
--- The reserve report as text.
+-- The reserve report as bytes: its lines, and the whole.
+pub mod Text
 pub mod Report

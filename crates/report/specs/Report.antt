@@ -13,7 +13,7 @@ use Rattle.model.specs.Plan.{Plan, plan-of}
 use Rattle.model.specs.Format.{head-of, row-of}
 use Rattle.model.specs.Bounds.{lower, upper, count-lower, count-upper}
 use Rattle.model.specs.Refusal.{read-refusal}
-use Rattle.text.specs.Text.{space, entry, line, joined}
+use Rattle.report.specs.Text.{space, entry, line, joined}
 
 -- "refused", "months", "opening", "sizes", "claims"
 abbrev pub refused-word : List ℕ

@@ -4,7 +4,7 @@ ghost use Prim.Native.Nat.{_+_, _*_, _≤_, min};
 ghost use lib.ListN.{length};
 ghost use Rattle.model.specs.Plan.{plan-of};
 ghost use Rattle.model.specs.Refusal.{Accepted};
-ghost use Rattle.text.specs.Text.{Appended};
+ghost use Rattle.report.specs.Text.{Appended};
 ghost use Rattle.report.specs.Report.{claims-lines, both-lines, high-lines, low-lines, numbered-lines};
 ghost use Rattle.report.specs.Report.{line-room, both-most, high-most, low-most, numbered-most, workspace-room};
 use crate::answers;

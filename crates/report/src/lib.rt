@@ -2,18 +2,19 @@
 mod answers;
 mod groups;
 mod lines;
+mod text;
 
+use crate::text::put_line;
 use model::Head;
 use model::Question;
 use model::limits;
-use text::put_line;
 ghost use mathlib.Core.Path.{_≡_};
 ghost use Prim.Native.Nat.{_≤_};
-ghost use mathlib.Core.List.{[], _∷_};
-ghost use lib.ListN.{length, take};
+ghost use mathlib.Core.List.{[], _∷_, _++_};
+ghost use lib.ListN.{length, take, drop};
 ghost use Rattle.model.specs.Plan.{row-length};
 ghost use Rattle.model.specs.Refusal.{Accepted};
-ghost use Rattle.text.specs.Text.{line, Appended};
+ghost use Rattle.report.specs.Text.{line, Appended};
 ghost use Rattle.report.specs.Report.{row-room, text-room, workspace-room, refused-word, plan-report, report-of};
 
 const ROW: usize = limits::MONTHS + limits::SIZES + 1;
@@ -23,9 +24,11 @@ const WORKSPACE: usize = 2 * (limits::OPENING + limits::MONTHS + 1) * (limits::C
 // Room for every report: the longest is below 39,000 bytes.
 pub const TEXT: usize = 65536;
 
-// Writes the report on a plan's bytes to the start of the text, and answers how long it is.
+// Writes the report on a plan's bytes to the start of the text, past which nothing changes, and answers how long it is. `within` is for a
+// caller that takes the first r bytes.
 pub fn report(bytes: &[u8], text: &mut [u8; TEXT]) -> usize
-    ensures written { λ r. ⌜ take r (now (text .exit)) ≡ report-of (now (bytes .entry)) ⌝ }
+    ensures answered { λ r. ⌜ r ≡ length (report-of (now (bytes .entry))) ⌝ }
+    ensures written { λ r. ⌜ now (text .exit) ≡ report-of (now (bytes .entry)) ++ drop r (now (text .entry)) ⌝ }
     ensures within { λ r. ⌜ (r ≤ length (now (text .exit))) × (r ≡ length (take r (now (text .exit)))) ⌝ }
 {
     let mut row = row();

@@ -5,14 +5,14 @@ ghost use Prim.Native.Nat.{ℕ, _+_, _*_, _^_, _<_, _≤_};
 ghost use lib.ListN.{length};
 ghost use Rattle.model.specs.Plan.{plan-of};
 ghost use Rattle.model.specs.Refusal.{Accepted, outside};
-ghost use Rattle.text.specs.Text.{joined, Appended};
+ghost use Rattle.report.specs.Text.{joined, Appended};
 ghost use Rattle.report.specs.Report.{head-line, head-room, bounds-line, question-line, question-lines, claims-line, claims-at, line-room, workspace-room};
 ghost use Rattle.report.specs.Report.{numbered as Report·numbered};
 use crate::answers;
+use crate::text::put_entry;
+use crate::text::put_line;
 use model::Head;
 use model::Question;
-use text::put_entry;
-use text::put_line;
 
 pub fn put_head(text: &mut [u8], at: usize, head: Head) -> usize
     requires { ⌜ at + head-room ≤ length (now text) ⌝ }

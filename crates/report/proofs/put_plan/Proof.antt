@@ -2,7 +2,7 @@
 use native.Mathlib.Omega.{arith}
 use borrow.Author.Needs.{needs}
 use Rattle.model.proofs.Facts.{facts}
-use Rattle.text.proofs.Laws.{appended-more}
+use Rattle.report.proofs.TextLaws.{appended-more}
 use Rattle.report.specs.Report.{plan-report}
 use Rattle.report.proofs.Laws.{head-ends, question-ends, claims-end, survive-within}
 use Rattle.report.proofs.put_plan.Statement.{statement}

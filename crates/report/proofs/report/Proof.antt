@@ -1,7 +1,8 @@
--- `report::report` meets its contract: the text is appended to none. Assumes nothing.
+-- `report::report` meets its contract: the text is appended to none, and stands before what the buffer had past it. Assumes nothing.
 use mathlib.Core.Path.{sym}
 use borrow.Author.Needs.{needs}
 use lib.Seq.{length-take-le}
+use Rattle.report.proofs.TextLaws.{appended-whole}
 use Rattle.report.proofs.report.Statement.{statement}
 use Rattle.report.proofs.report.Tie as tie
 
@@ -23,7 +24,8 @@ put-report-requires c κs = search needs
 returns : tie.Need-returns
 returns c =
     let put = c .before .before .put-report .ensures in
-    (put .holds, (put .inside, sym (length-take-le _ _ (put .inside))))
+    let whole = appended-whole put in
+    (whole .0, (whole .1, (put .inside, sym (length-take-le _ _ (put .inside)))))
 
 pub report-spec : {M : Type 1} → statement M
 report-spec =

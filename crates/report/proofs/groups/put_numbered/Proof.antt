@@ -1,7 +1,7 @@
 -- `groups::put_numbered` meets its contract: three groups of lines, one after another, with room for the most lines of each. Assumes nothing.
 use native.Mathlib.Omega.{arith}
 use Rattle.model.proofs.Facts.{Facts, facts}
-use Rattle.text.proofs.Laws.{appended-more}
+use Rattle.report.proofs.TextLaws.{appended-more}
 use Rattle.report.specs.Report.{numbered-lines}
 use Rattle.report.proofs.Laws.{both-end, high-end}
 use borrow.Author.Needs.{needs}

@@ -1,6 +1,6 @@
 -- `lines::put_bounds` meets its contract, by the question's cases. Assumes nothing.
 use borrow.Author.Needs.{needs}
-use Rattle.text.proofs.Laws.{line-fits}
+use Rattle.report.proofs.TextLaws.{line-fits}
 use Rattle.report.proofs.lines.put_bounds.Statement.{statement}
 use Rattle.report.proofs.lines.put_bounds.Tie as tie
 

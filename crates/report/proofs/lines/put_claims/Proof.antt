@@ -4,8 +4,8 @@ use mathlib.Core.Path.{_≡_}
 use native.Mathlib.Omega.{arith}
 use borrow.Author.Needs.{needs}
 use lib.ListN.{length}
-use Rattle.text.specs.Text.{joined, Appended}
-use Rattle.text.proofs.Laws.{appended-none, joined-next, joined-more, joined-done}
+use Rattle.report.specs.Text.{joined, Appended}
+use Rattle.report.proofs.TextLaws.{appended-none, joined-next, joined-more, joined-done}
 use Rattle.report.specs.Report.{claims-at, line-room}
 use Rattle.report.proofs.Laws.{claims-short}
 use Rattle.report.proofs.lines.put_claims.Statement.{statement}

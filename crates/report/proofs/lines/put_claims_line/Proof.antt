@@ -1,5 +1,5 @@
 -- `lines::put_claims_line` meets its contract: there is room for any line. Assumes nothing.
-use Rattle.text.proofs.Laws.{line-fits}
+use Rattle.report.proofs.TextLaws.{line-fits}
 use borrow.Author.Needs.{needs}
 use Rattle.report.proofs.lines.put_claims_line.Statement.{statement}
 use Rattle.report.proofs.lines.put_claims_line.Tie as tie

@@ -1,7 +1,7 @@
 -- `lines::put_head` meets its contract: two entries and a line, one after another. Assumes nothing.
 use native.Mathlib.Omega.{arith}
 use borrow.Author.Needs.{needs}
-use Rattle.text.proofs.Laws.{appended-more, entry-fits, line-fits, entry-ends}
+use Rattle.report.proofs.TextLaws.{appended-more, entry-fits, line-fits, entry-ends}
 use Rattle.report.specs.Report.{head-line}
 use Rattle.report.proofs.lines.put_head.Statement.{statement}
 use Rattle.report.proofs.lines.put_head.Tie as tie

@@ -5,8 +5,8 @@ use native.Mathlib.Omega.{arith}
 use borrow.Author.Needs.{needs}
 use lib.ListN.{length}
 use Rattle.model.specs.Plan.{plan-of}
-use Rattle.text.specs.Text.{joined, Appended}
-use Rattle.text.proofs.Laws.{appended-none, joined-next, joined-more, joined-done}
+use Rattle.report.specs.Text.{joined, Appended}
+use Rattle.report.proofs.TextLaws.{appended-none, joined-next, joined-more, joined-done}
 use Rattle.report.specs.Report.{question-at, question-lines, line-room}
 use Rattle.report.proofs.Laws.{question-short}
 use Rattle.report.proofs.lines.put_questions.Statement.{statement}

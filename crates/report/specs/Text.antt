@@ -4,7 +4,7 @@ use mathlib.Core.Path.{_≡_}
 use mathlib.Core.Bool.{cond}
 use mathlib.Core.List.{List, [], _∷_, _++_}
 use lib.Dec.{ltb}
-use lib.ListN.{length, getD, take}
+use lib.ListN.{length, getD, take, drop}
 
 -- the digits of n, the most significant first and no 0 in front, of at most so many places
 unfoldable pub digits : ℕ → ℕ → List ℕ
@@ -41,8 +41,9 @@ entry word numbers = word ++ joined (length numbers) (fields numbers)
 unfoldable pub line : List ℕ → List ℕ → List ℕ
 line word numbers = entry word numbers ++ newline ∷ []
 
--- What appending does: the text up to `at` stays, and what was appended stands after it, up to the end.
+-- What appending does: the text up to `at` stays, what was appended stands after it, up to the end, and past that nothing changes.
 pub record Appended (before : List ℕ) (at : ℕ) (text : List ℕ) (after : List ℕ) (end : ℕ) : Type 0 where
   pub ends : end ≡ at + length text
   pub inside : end ≤ length after
   pub holds : take end after ≡ take at before ++ text
+  pub rest : drop end after ≡ drop end before

@@ -2,8 +2,8 @@
 ghost use Prim.Native.Nat.{_+_, _≤_, _<_};
 ghost use mathlib.Core.List.{[], _∷_};
 ghost use lib.ListN.{length};
-ghost use Rattle.text.specs.Text.{Appended};
-ghost use Rattle.text.specs.Text.{decimal as Text·decimal, field as Text·field, entry as Text·entry, line as Text·line};
+ghost use Rattle.report.specs.Text.{Appended};
+ghost use Rattle.report.specs.Text.{decimal as Text·decimal, field as Text·field, entry as Text·entry, line as Text·line};
 
 pub fn put_byte(buffer: &mut [u8], at: usize, byte: u8) -> usize
     requires { ⌜ at < length (now buffer) ⌝ }

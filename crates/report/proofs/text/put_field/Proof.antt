@@ -1,8 +1,8 @@
 -- `text::put_field` meets its contract: a space, then the number. Assumes nothing.
 use borrow.Author.Needs.{needs}
-use Rattle.text.proofs.Laws.{appended-more}
-use Rattle.text.proofs.put_field.Statement.{statement}
-use Rattle.text.proofs.put_field.Tie as tie
+use Rattle.report.proofs.TextLaws.{appended-more}
+use Rattle.report.proofs.text.put_field.Statement.{statement}
+use Rattle.report.proofs.text.put_field.Tie as tie
 
 put-byte-requires : tie.Need-put-byte-requires
 put-byte-requires c κs = search needs

@@ -1,34 +1,42 @@
 -- Laws of appending and of decimal numbers. Assumes nothing.
 use Prim.Native.Nat.{ℕ, zero, suc, _+_, _*_, _/_, _%_, _^_, _≤_, _<_}
-use mathlib.Core.Path.{_≡_, refl, sym, ap, _∙_}
+use mathlib.Core.Path.{_≡_, refl, sym, ap, ap₂, _∙_}
 use mathlib.Core.Bool.{Bool, true, false, cond}
 use mathlib.Core.List.{List, [], _∷_, _++_, append-assoc, append-nil}
 use native.Mathlib.Omega.{arith}
 use native.Mathlib.Numerals.{add-one}
-use native.Mathlib.Nat.{pow-suc, eq-or-lt-of-le, zero-mul, suc-mul, mul-le-mul-right}
+use native.Mathlib.Nat.{pow-suc, eq-or-lt-of-le, zero-add, zero-mul, suc-mul, mul-le-mul-right}
 use mathlib.Core.Logic.{⊎-elim}
 use lib.Dec.{ltb}
-use lib.ListN.{length, getD, take, set, length-append, length-set}
-use lib.Seq.{length-take-le, take-all, take-suc, take-suc-set}
+use lib.ListN.{length, getD, take, drop, set, take-append-drop, length-append, length-set}
+use lib.Seq.{length-take-le, take-all, take-suc, take-suc-set, drop-drop, drop-set-lt}
 use borrow.Author.Tests.{lt-ltb, le-ltb}
-use Rattle.text.specs.Text.{digits, decimal, fields, joined, entry, line, Appended}
+use Rattle.report.specs.Text.{digits, decimal, fields, joined, entry, line, Appended}
 
 -- nothing appended
 pub appended-none : (b : List ℕ) (at : ℕ) → at ≤ length b → Appended b at [] b at
-appended-none b at h = record { ends = omega arith; inside = h; holds = sym (append-nil (take at b)) }
+appended-none b at h = record { ends = omega arith; inside = h; holds = sym (append-nil (take at b)); rest = refl }
 
 -- one text after another
 pub appended-more : {b₀ b₁ b₂ t₁ t₂ : List ℕ} {a₀ a₁ a₂ : ℕ} → Appended b₀ a₀ t₁ b₁ a₁ → Appended b₁ a₁ t₂ b₂ a₂ → Appended b₀ a₀ (t₁ ++ t₂) b₂ a₂
-appended-more {b₀} {b₁} {b₂} {t₁} {t₂} {a₀} p q =
+appended-more {b₀} {b₁} {b₂} {t₁} {t₂} {a₀} {a₁} p q =
     record {
       ends = omega (arith, p .ends, q .ends, length-append t₁ t₂);
       inside = q .inside;
       holds = q .holds ∙ ap (λ (l : List ℕ). l ++ t₂) (p .holds) ∙ append-assoc (take a₀ b₀) t₁ t₂;
+      rest = q .rest ∙ (rw (q .ends, ← drop-drop (length t₂) a₁ b₁, ← drop-drop (length t₂) a₁ b₀, p .rest));
     }
+
+-- appended to nothing: the whole buffer
+pub appended-whole : {b b′ t : List ℕ} {end : ℕ} → Appended b 0 t b′ end → (end ≡ length t) × (b′ ≡ t ++ drop end b)
+appended-whole {b} {b′} {t} {end} p = (
+  p .ends ∙ zero-add (length t),
+  sym (take-append-drop end b′) ∙ ap₂ (λ (x y : List ℕ). x ++ y) (p .holds) (p .rest),
+)
 
 -- one byte
 pub appended-byte : (b : List ℕ) (at x : ℕ) → at < length b → Appended b at (x ∷ []) (set b at x) (at + 1)
-appended-byte b at x h = record { ends = refl; inside = simp length-set (omega arith); holds = rw (add-one, take-suc-set) }
+appended-byte b at x h = record { ends = refl; inside = simp length-set (omega arith); holds = rw (add-one, take-suc-set); rest = drop-set-lt (at + 1) b at x (omega arith) }
 
 -- a digit more
 digits-step : (places n : ℕ) → digits (suc places) n ≡ cond (ltb n 10) [] (digits places (n / 10)) ++ (48 + n % 10) ∷ []

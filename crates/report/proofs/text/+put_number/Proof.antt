@@ -1,16 +1,16 @@
 -- The proof of the cycle of calls {put_number}: the number falls. Its last digit stands after the digits of the tenth.
 use native.Mathlib.Omega.{arith}
 use borrow.Author.Needs.{needs}
-use Rattle.text.proofs.Laws.{appended-more, decimal-small, decimal-tens, decimal-small-length, decimal-tens-length}
+use Rattle.report.proofs.TextLaws.{appended-more, decimal-small, decimal-tens, decimal-small-length, decimal-tens-length}
 use Prim.Native.Nat.{ℕ, _<_}
 use borrow.Fn.Kinds.{In}
 use borrow.Fn.PlainCycle.{Measures, is, falls, and}
-use Rattle.text.proofs.put_number.Reads as put-number
-use Rattle.text.proofs.put_number.Kinds as put-number-kinds
-use Rattle.text.proofs.+put_number.Lts-put_number as put-number-lts
-use Rattle.text.proofs.put_byte.Reads as put-byte-reads
-use Rattle.text.proofs.+put_number.{statement}
-use Rattle.text.proofs.+put_number.Tie.{close}
+use Rattle.report.proofs.text.put_number.Reads as put-number
+use Rattle.report.proofs.text.put_number.Kinds as put-number-kinds
+use Rattle.report.proofs.text.+put_number.Lts-put_number as put-number-lts
+use Rattle.report.proofs.text.put_byte.Reads as put-byte-reads
+use Rattle.report.proofs.text.+put_number.{statement}
+use Rattle.report.proofs.text.+put_number.Tie.{close}
 
 abbrev μ-put-number : Measures 1 put-number-kinds.ps ℕ
 μ-put-number κs a = a .1 .1 .0

@@ -1,10 +1,10 @@
 -- `text::put_line` meets its contract: an entry, then the newline. Assumes nothing.
 use native.Mathlib.Omega.{arith}
-use Rattle.text.specs.Text.{line}
-use Rattle.text.proofs.Laws.{appended-more, line-length}
+use Rattle.report.specs.Text.{line}
+use Rattle.report.proofs.TextLaws.{appended-more, line-length}
 use borrow.Author.Needs.{needs}
-use Rattle.text.proofs.put_line.Statement.{statement}
-use Rattle.text.proofs.put_line.Tie as tie
+use Rattle.report.proofs.text.put_line.Statement.{statement}
+use Rattle.report.proofs.text.put_line.Tie as tie
 
 put-entry-requires : tie.Need-put-entry-requires
 put-entry-requires c κs = omega (arith, line-length (c .before .before .before .before .args .word .now) (c .before .before .before .before .args .numbers .now))

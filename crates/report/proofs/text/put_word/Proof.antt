@@ -3,10 +3,10 @@ use borrow.Author.Needs.{needs}
 use Prim.Native.Nat.{_≤_, _-_}
 use mathlib.Core.Path.{_≡_}
 use lib.ListN.{length, take}
-use Rattle.text.specs.Text.{Appended}
-use Rattle.text.proofs.Laws.{appended-none, word-room, word-more, word-done}
-use Rattle.text.proofs.put_word.Statement.{statement}
-use Rattle.text.proofs.put_word.Tie as tie
+use Rattle.report.specs.Text.{Appended}
+use Rattle.report.proofs.TextLaws.{appended-none, word-room, word-more, word-done}
+use Rattle.report.proofs.text.put_word.Statement.{statement}
+use Rattle.report.proofs.text.put_word.Tie as tie
 
 abbrev Inv-loop : tie.InvT-loop
 Inv-loop buffer₀ at word end₀ i₀ buffer end i = (length buffer ≡ length buffer₀) × (i ≤ length word) × Appended buffer₀ at (take i word) buffer end

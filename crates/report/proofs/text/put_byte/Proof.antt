@@ -1,8 +1,8 @@
 -- `text::put_byte` meets its contract: a store after the text's end appends one byte. Assumes nothing.
-use Rattle.text.proofs.Laws.{appended-byte}
+use Rattle.report.proofs.TextLaws.{appended-byte}
 use borrow.Author.Needs.{needs}
-use Rattle.text.proofs.put_byte.Statement.{statement}
-use Rattle.text.proofs.put_byte.Tie as tie
+use Rattle.report.proofs.text.put_byte.Statement.{statement}
+use Rattle.report.proofs.text.put_byte.Tie as tie
 
 slice-write-buffer : tie.Need-slice-write-buffer
 slice-write-buffer c = search needs

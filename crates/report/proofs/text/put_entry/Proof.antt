@@ -4,10 +4,10 @@ use borrow.Author.Needs.{needs}
 use Prim.Native.Nat.{_≤_, _-_}
 use mathlib.Core.Path.{_≡_}
 use lib.ListN.{length}
-use Rattle.text.specs.Text.{Appended, fields, joined, entry}
-use Rattle.text.proofs.Laws.{appended-none, appended-more, joined-room, joined-more, joined-done, entry-length}
-use Rattle.text.proofs.put_entry.Statement.{statement}
-use Rattle.text.proofs.put_entry.Tie as tie
+use Rattle.report.specs.Text.{Appended, fields, joined, entry}
+use Rattle.report.proofs.TextLaws.{appended-none, appended-more, joined-room, joined-more, joined-done, entry-length}
+use Rattle.report.proofs.text.put_entry.Statement.{statement}
+use Rattle.report.proofs.text.put_entry.Tie as tie
 
 abbrev Inv-loop : tie.InvT-loop
 Inv-loop buffer₀ at word numbers end₀ i₀ buffer end i = (length buffer ≡ length buffer₀) × (i ≤ length numbers) × Appended buffer₀ end₀ (joined i (fields numbers)) buffer end

@@ -1,2 +1,0 @@
--- The lines of the reserve report as bytes.
-pub mod Text
