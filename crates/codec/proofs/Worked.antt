@@ -9,7 +9,7 @@ use Rattle.model.specs.Sums.{total, any}
 use Rattle.model.specs.Plan.{plan-of}
 use Rattle.model.specs.Format.{bits, number, fields, head-bits, plan-bits, bit-length, byte-length, filled-bits, bytes-of}
 use Rattle.model.specs.Format.{bits-of, head-of, row-of, fill-of}
-use Rattle.model.specs.Refusal.{first, head-checks, number-checks, tail-reachable, read-refusal}
+use Rattle.model.specs.Refusal.{first, head-checks, number-checks, tail-survivable, read-refusal}
 
 report-bytes : List ℕ
 report-bytes =
@@ -23,7 +23,7 @@ report-row = replicate 4 (2 ^ 29) ++ 0 ∷ []
 
 report-is-read :
     (read-refusal report-bytes 5 ≡ 0) × (head-of report-bytes ≡ report-head) × (row-of report-bytes ≡ report-row)
-unfolding report-bytes report-head report-row S total any plan-of bits number head-bits bit-length byte-length bits-of head-of fields row-of fill-of first head-checks number-checks tail-reachable read-refusal flatMap
+unfolding report-bytes report-head report-row S total any plan-of bits number head-bits bit-length byte-length bits-of head-of fields row-of fill-of first head-checks number-checks tail-survivable read-refusal flatMap
 report-is-read = (refl, refl, refl)
 
 report-is-written : bytes-of report-head report-row ≡ report-bytes

@@ -31,7 +31,7 @@ answer a row room =
     p : Plan
     p = plan-of (a .head) row
 
--- the workspace after it: "After an answered question the needed part of the workspace is all zero … What lies past it is untouched in every case."
+-- the workspace after it: "After an answered question the needed part of the desk is all zero. … What lies past it is untouched in every case."
 unfoldable pub workspace-after : Ask → List ℕ → List ℕ → List ℕ
 workspace-after a row workspace =
     cond (eqb (ask-refusal a row (length workspace)) 0) (replicate (workspace-needed a) 0 ++ drop (workspace-needed a) workspace) workspace

@@ -2,7 +2,7 @@
 use mathlib.Core.Path.{_≡_, refl, sym, _∙_, ap, fun-ext}
 use mathlib.Core.Bool.{true, cond}
 use mathlib.Core.List.{List, [], _∷_}
-use Prim.Native.Nat.{ℕ, zero, suc, _+_, _*_, _-_, _^_, _≤_}
+use Prim.Native.Nat.{ℕ, zero, suc, _+_, _*_, _-_, _^_, _≤_, _<_}
 use native.Mathlib.Nat.{mul-add, add-mul, mul-assoc, mul-comm, mul-left-comm, mul-right-comm, mul-zero, zero-mul, mul-one, one-mul, zero-add, add-comm, sub-zero, pow-zero, mul-le-mul-left, le-refl}
 use native.Mathlib.Omega.{arith}
 use lib.Dec.{eqb, eqb·zero-suc, eqb·suc-zero, eqb·suc-suc}
@@ -221,3 +221,29 @@ pub count-row-gap :
     (Ps : List ℕ) → ((i : ℕ) → getD Ps i 0 ≤ S) → (k : ℕ) → count-row up Ps k ≤ count-row down Ps k + month-gap * live-months Ps
 unfolding count-row
 count-row-gap Ps hP k = rw zero-add at (counted-gap Ps hP no-months no-months 0 (λ j. omega arith) k)
+
+-- a row that is 0 above a place is 0 above the next place after a month …
+above-month :
+    (round : Rounding) → round 0 ≡ 0 → (P j : ℕ) (X : Row) → ((k : ℕ) → j < k → X k ≡ 0) →
+    (k : ℕ) → suc j < k → count-month round P X k ≡ 0
+unfolding count-month one-before
+above-month round none P j X h zero l = absurd (omega arith)
+above-month round none P j X h (suc k) l = rw (h k (omega arith), h (suc k) (omega arith), mul-zero P, mul-zero (S - P)) none
+
+counted-above :
+    (round : Rounding) → round 0 ≡ 0 → (Ps : List ℕ) (j : ℕ) (X : Row) → ((k : ℕ) → j < k → X k ≡ 0) →
+    (k : ℕ) → j + length Ps < k → counted (count-month round) Ps X k ≡ 0
+unfolding counted
+counted-above round none [] j X h k l = h k (omega arith)
+counted-above round none (P ∷ Ps) j X h k l =
+    counted-above round none Ps (suc j) (count-month round P X) (above-month round none P j X h) k (omega arith)
+
+nothing-above : (k : ℕ) → 0 < k → no-months k ≡ 0
+unfolding no-months
+nothing-above zero l = absurd (omega arith)
+nothing-above (suc k) l = refl
+
+-- … so after n months it is 0 above n
+pub count-row-above : (round : Rounding) → round 0 ≡ 0 → (Ps : List ℕ) (k : ℕ) → length Ps < k → count-row round Ps k ≡ 0
+unfolding count-row
+count-row-above round none Ps k l = counted-above round none Ps 0 no-months nothing-above k (omega arith)

@@ -13,7 +13,7 @@ use Rattle.model.specs.Limits.{max-months, max-opening, max-sizes}
 use Rattle.model.specs.Scale.{S}
 use Rattle.model.specs.Sums.{total, any, all}
 use Rattle.model.specs.Plan.{Plan, plan-of, row-length, horizon, sizes}
-use Rattle.model.specs.Refusal.{first, head-checks, length-check, tail-reachable, number-checks, plan-checks, plan-refusal, Accepted}
+use Rattle.model.specs.Refusal.{first, head-checks, length-check, tail-survivable, number-checks, plan-checks, plan-refusal, Accepted}
 
 -- The numbers of checks are not 0, so that 0 says that none of them fits; of a table this computes.
 abbrev pub numbered : List (ℕ × Bool) → Bool
@@ -88,8 +88,8 @@ none-above limit (x ∷ xs) e zero = ltb-false limit x (neither (ltb limit x) (a
 none-above limit (x ∷ xs) e (suc i) = none-above limit xs (neither (ltb limit x) (any (ltb limit) xs) e .1) i
 
 -- a tail that is not reachable ruins where there is one
-tail-fits : (p : Plan) → tail-reachable p ≡ false → 0 < p .tail → p .opening + horizon p ≤ sizes p + 1
-unfolding tail-reachable
+tail-fits : (p : Plan) → tail-survivable p ≡ false → 0 < p .tail → p .opening + horizon p ≤ sizes p + 1
+unfolding tail-survivable
 tail-fits p e some = ltb-false _ _ (sym (ap (λ t. t && ltb (sizes p + 1) (p .opening + horizon p)) (lt-ltb _ _ some)) ∙ e)
 
 -- what is known of a head that no check turns away

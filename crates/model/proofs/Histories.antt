@@ -14,13 +14,13 @@ use Rattle.model.specs.History.{Event, no-claim, claim, tail-claim, Hist
 use Rattle.model.specs.Exact.{weight-of}
 use Rattle.model.proofs.SumLaws.{total-append, total-map-times, total-one-to, sum-times, sum-nth-times, pow-two-more}
 
--- the plan that opens at 0 with the given chances; the weight of histories does not look at the opening
-abbrev pub over : List ℕ → ℕ → List ℕ → Plan
-over F tail Ps = record { opening = 0; chances = Ps; severity = F; tail = tail }
+-- the plan that opens at 0 with these severities, tail and chances; the weight of histories does not look at the opening
+abbrev plan-with : List ℕ → ℕ → List ℕ → Plan
+plan-with F tail Ps = record { opening = 0; chances = Ps; severity = F; tail = tail }
 
 -- the weight over histories of a condition on them
 abbrev pub weigh : List ℕ → ℕ → List ℕ → (History → Bool) → ℕ
-weigh F tail Ps = weight-of (over F tail Ps)
+weigh F tail Ps = weight-of (plan-with F tail Ps)
 
 pub weight-is : (p : Plan) (C : History → Bool) → weight-of p C ≡ weigh (p .severity) (p .tail) (p .chances) C
 unfolding weight-of history-weight
@@ -68,15 +68,15 @@ module _ (F : List ℕ) (tail : ℕ) where
       shorter = histories (length F) (length Ps)
 
       kept : History → ℕ
-      kept h = cond (C h) (history-weight (over F tail (P ∷ Ps)) h) 0
+      kept h = cond (C h) (history-weight (plan-with F tail (P ∷ Ps)) h) 0
 
       later : Event → History → ℕ
-      later e h = cond (C (e ∷ h)) (history-weight (over F tail Ps) h) 0
+      later e h = cond (C (e ∷ h)) (history-weight (plan-with F tail Ps) h) 0
 
       first : (e : Event) → total (map kept (map (λ h. e ∷ h) shorter)) ≡ event-weight F tail P e * total (map (later e) shorter)
       first e =
           ap total (map-map kept (λ h. e ∷ h) shorter)
-          ∙ ap (λ (f : History → ℕ). total (map f shorter)) (fun-ext (λ h. cond-times (C (e ∷ h)) (event-weight F tail P e) (history-weight (over F tail Ps) h)))
+          ∙ ap (λ (f : History → ℕ). total (map f shorter)) (fun-ext (λ h. cond-times (C (e ∷ h)) (event-weight F tail P e) (history-weight (plan-with F tail Ps) h)))
           ∙ total-map-times (event-weight F tail P e) (later e) shorter
 
   -- the same by what the first month brings

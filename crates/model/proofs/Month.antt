@@ -9,7 +9,7 @@ use Rattle.model.specs.Scale.{S, Rounding, down, up}
 use Rattle.model.specs.Sums.{sum, total}
 use Rattle.model.specs.Plan.{nth}
 use Rattle.model.specs.MonthRule.{Row, claim-sum, month, exact-month}
-use Rattle.model.specs.Bounds.{month-gap}
+use Rattle.model.specs.Bounds.{month-gap, largest, MonthLimits}
 use Rattle.model.proofs.SumLaws.{sum-ext}
 
 -- the claim sum by recursion on the severity list and the level
@@ -190,10 +190,18 @@ month-fits round within F hF P hP X Y hX hY s =
     m : (S - P) * X (s + 1) + P * round (claim-sum F Y s) ≤ S * S
     m = mixture-le P (X (s + 1)) (round (claim-sum F Y s)) S hP (hX (s + 1)) (within _ c)
 
--- with what rounding up adds: "No product or sum here passes 2^60 + 2^30."
-pub limit : (x : ℕ) → x ≤ S * S → x + (S - 1) ≤ 2 ^ 60 + 2 ^ 30
-unfolding S
+-- with what rounding up adds
+pub limit : (x : ℕ) → x ≤ S * S → x + (S - 1) ≤ largest
+unfolding S largest
 limit x h = omega arith
+
+pub month-limited : {round : Rounding} {F : List ℕ} {P : ℕ} {X Y : Row} {s : ℕ} → MonthFits round F P X Y s → MonthLimits round F P X Y s
+month-limited fits =
+    record {
+      product = λ x r. omega (arith, limit _ (fits .products x r));
+      claim-total = limit _ (fits .claims);
+      month-total = limit _ (fits .parts);
+    }
 
 -- one division adds at most one part to the gap
 pub round-gap : (a b h : ℕ) → b ≤ a + S * h → up b ≤ down a + (h + 1)

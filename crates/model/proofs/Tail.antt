@@ -1,12 +1,12 @@
 -- What the tail rule is for: a claim that no size of the plan covers ruins, whatever came before it.
-use mathlib.Core.Path.{_≡_, refl}
-use mathlib.Core.Bool.{Bool, true, false, cond}
-use mathlib.Core.List.{[], _∷_, _++_}
+use mathlib.Core.Path.{_≡_, refl, sym, _∙_}
+use mathlib.Core.Bool.{Bool, true, false, cond, true≢false}
+use mathlib.Core.List.{List, [], _∷_, _++_}
 use Prim.Native.Nat.{ℕ, zero, suc, _+_, _-_, _≤_, _<_}
 use native.Mathlib.Omega.{arith}
 use lib.Dec.{ltb}
 use lib.IntN.{ℤ, pos, negsuc, subℕ, _+ℤ_, _-ℤ_}
-use lib.ListN.{length}
+use lib.ListN.{length, getD}
 use borrow.Author.Tests.{le-leb, lt-leb, leb-true}
 use Rattle.model.specs.Sums.{all}
 use Rattle.model.specs.History.{Event, no-claim, claim, tail-claim, History, Surplus, known, lost, next-surplus, surplus-path, at-least, at-most}
@@ -57,11 +57,17 @@ large-claim-ruins B (suc i) (known (negsuc z)) h l =
     (minus-at-most 0 (suc i) (negsuc z +ℤ pos 1) (sub-at-most 0 1 (suc z) (omega arith)))
 large-claim-ruins B (suc i) lost h l = below-one lost refl
 
--- in any month of any history
-pub ruins :
+-- in any month of any history, and in that month itself
+pub ruins-then :
     (B x : ℕ) (u : Surplus) → at-most B u ≡ true → (before after : History) → B + length before < x →
-    all (at-least 1) (surplus-path u (before ++ claim x ∷ after)) ≡ false
-unfolding all surplus-path
-ruins B x u h [] after l = rw (large-claim-ruins B x u h (omega arith))
-ruins B x u h (e ∷ before) after l =
-    rw (ruins (suc B) x (next-surplus u e) (grows B u e h) before after (omega arith)) (and-false (at-least 1 (next-surplus u e)))
+    at-least 1 (getD (surplus-path u (before ++ claim x ∷ after)) (length before) (known (pos 1))) ≡ false
+unfolding surplus-path
+ruins-then B x u h [] after l = large-claim-ruins B x u h (omega arith)
+ruins-then B x u h (e ∷ before) after l = ruins-then (suc B) x (next-surplus u e) (grows B u e h) before after (omega arith)
+
+-- a test that fails at one place fails of the list; the default passes it, so the place is inside
+pub all-fails : {A : Type 0} (f : A → Bool) (d : A) → f d ≡ true → (xs : List A) (i : ℕ) → f (getD xs i d) ≡ false → all f xs ≡ false
+unfolding all
+all-fails f d passes [] i e = absurd (true≢false (sym passes ∙ e))
+all-fails f d passes (x ∷ xs) zero e = rw e
+all-fails f d passes (x ∷ xs) (suc i) e = rw (all-fails f d passes xs i e) (and-false (f x))

@@ -1,5 +1,5 @@
 -- The laws of demands 2 and 3, of every accepted plan: what the other crates cite, and what docs/CLAIMS.md names.
-use mathlib.Core.Path.{_≡_, sym, _∙_}
+use mathlib.Core.Path.{_≡_, refl, sym, _∙_}
 use mathlib.Core.Bool.{true, false}
 use mathlib.Core.List.{List, [], _∷_, _++_}
 use Prim.Native.Nat.{ℕ, zero, suc, _+_, _*_, _-_, _^_, _≤_, _<_}
@@ -15,25 +15,25 @@ use Rattle.model.specs.declared.Question.the-variants.{Survive}
 use Rattle.model.specs.Scale.{S, Rounding, down, up}
 use Rattle.model.specs.Sums.{product, total}
 use Rattle.model.specs.Plan.{Plan, plan-of, horizon, sizes, nth}
-use Rattle.model.specs.History.{History, claim, known, at-most}
-use Rattle.model.specs.Exact.{survives, weight-of, exact, exact-count}
+use Rattle.model.specs.History.{History, claim, known, at-least, at-most}
+use Rattle.model.specs.Exact.{path-from, survives, weight-of, exact, exact-count}
 use Rattle.model.specs.MonthRule.{Row, month, exact-month, kept, claimed-row, values, value, rule-of, claims-of}
 use Rattle.model.specs.CountRow.{count-row, exact-count-month, counted, no-months}
 use Rattle.model.specs.FirstClaim.{some-claim, first-claim-survival}
-use Rattle.model.specs.Bounds.{bound, lower, upper, count-lower, count-upper, Encloses}
+use Rattle.model.specs.Bounds.{bound, lower, upper, count-lower, count-upper, Encloses, MonthLimits, CountLimits}
 use Rattle.model.specs.Refusal.{Accepted}
 use Rattle.model.proofs.Facts.{facts}
-use Rattle.model.proofs.Month.{downwards, upwards, Within, down-within, up-within, MonthFits}
+use Rattle.model.proofs.Month.{downwards, upwards, Within, down-within, up-within, limit, month-limited}
 use Rattle.model.proofs.Values.{values-enclose, values-fit, values-gap, last-fits, months-fit}
 use Rattle.model.proofs.Histories.{weight-is, weigh-all}
 use Rattle.model.proofs.Questions.{unrounded-is-exact}
-use Rattle.model.proofs.Counts.{unrounded-count-is-exact, CountFits, count-month-fits, count-row-encloses, count-row-fits, count-row-gap}
+use Rattle.model.proofs.Counts.{unrounded-count-is-exact, count-month-fits, count-row-encloses, count-row-fits, count-row-gap, count-row-above}
 use Rattle.model.proofs.FirstClaimLaw.{no-claim-is, unrounded-is-first-claim}
-use Rattle.model.proofs.Tail.{ruins}
+use Rattle.model.proofs.Tail.{ruins-then, all-fails}
 
 -- the rows that month t reads, by the claims left
-abbrev pub rows-after : Rounding → Plan → Question → ℕ → ℕ → Row
-rows-after round p q t k = kept (rule-of q .allowed) (values (month round (p .severity)) (rule-of q) (drop t (p .chances)) k)
+abbrev pub rows-read : Rounding → Plan → Question → ℕ → ℕ → Row
+rows-read round p q t k = kept (rule-of q .allowed) (values (month round (p .severity)) (rule-of q) (drop t (p .chances)) k)
 
 take-fits : (B n : ℕ) (xs : List ℕ) → ((i : ℕ) → getD xs i 0 ≤ B) → (i : ℕ) → getD (take n xs) i 0 ≤ B
 take-fits B zero xs h i = omega arith
@@ -47,6 +47,10 @@ scale-positive = omega arith
 
 positive : (n : ℕ) → 0 < S ^ n
 positive n = one-le-pow n S scale-positive
+
+-- the lower bound is at most the upper one
+ordered : {p : Plan} {W low high : ℕ} → Encloses p W low high → low ≤ high
+ordered {p} {W} {low} {high} e = le-of-mul-le-mul-right (le-trans (e .below) (e .above)) (positive (2 * horizon p))
 
 module _ (h : Head) (row : List ℕ) (accepted : Accepted h row) where
   abbrev p : Plan
@@ -110,18 +114,35 @@ module _ (h : Head) (row : List ℕ) (accepted : Accepted h row) where
       weight-is p (λ _. true)
       ∙ weigh-all (p .severity) (p .tail) (facts h row accepted .weights-add) (p .chances) chances-fit
 
-  -- "An over claim must always ruin": so does a claim of any size above m, in any month of any history, where over is above 0.
-  pub tail-claim-ruins :
+  -- "An over claim must always ruin": so does a claim of any size above m, in any month of any history, where over is above 0. In its own month t
+  -- the surplus U_t, at index t − 1, is not 1 or more …
+  pub tail-claim-ruins-then :
       0 < p .tail → (x : ℕ) → sizes p < x →
       (before after : History) → length (before ++ claim x ∷ after) ≡ horizon p →
-      survives (p .opening) (before ++ claim x ∷ after) ≡ false
-  unfolding survives at-most
-  tail-claim-ruins some x large before after months =
-      ruins u x (known (pos u)) (le-leb u u (le-refl u)) before after
+      at-least 1 (getD (path-from (p .opening) (before ++ claim x ∷ after)) (length before) (known (pos 1))) ≡ false
+  unfolding at-most
+  tail-claim-ruins-then some x large before after months =
+      ruins-then u x (known (pos u)) (le-leb u u (le-refl u)) before after
       (omega (arith, facts h row accepted .tail-ruins some, months, length-append before (claim x ∷ after)))
     where
       u : ℕ
       u = p .opening
+
+  -- … so the fund does not survive.
+  pub tail-claim-ruins :
+      0 < p .tail → (x : ℕ) → sizes p < x →
+      (before after : History) → length (before ++ claim x ∷ after) ≡ horizon p →
+      survives (p .opening) (before ++ claim x ∷ after) ≡ false
+  unfolding survives at-least
+  tail-claim-ruins some x large before after months =
+      all-fails (at-least 1) (known (pos 1)) refl (path-from (p .opening) (before ++ claim x ∷ after)) (length before)
+      (tail-claim-ruins-then some x large before after months)
+
+  pub bounds-ordered : (q : Question) → lower p q ≤ upper p q
+  bounds-ordered q = ordered (enclosure q)
+
+  pub counts-ordered : (k : ℕ) → count-lower p k ≤ count-upper p k
+  counts-ordered k = ordered (count-enclosure k)
 
   -- every bound is at most S
   bound-fits : (round : Rounding) → Within round → (q : Question) → bound round p q ≤ S
@@ -135,31 +156,37 @@ module _ (h : Head) (row : List ℕ) (accepted : Accepted h row) where
   pub counts-fit : (k : ℕ) → (count-lower p k ≤ S) × (count-upper p k ≤ S)
   counts-fit k = (count-row-fits down down-within (p .chances) chances-fit k, count-row-fits up up-within (p .chances) chances-fit k)
 
-  -- what month t works out at level s with k claims left: nothing passes S × S, and S × S + (S − 1) is below 2^60 + 2^30 (`Month.limit`)
+  -- "above n they are 0"
+  pub counts-above : (k : ℕ) → horizon p < k → (count-lower p k ≡ 0) × (count-upper p k ≡ 0)
+  unfolding down up S
+  counts-above k l = (count-row-above down refl (p .chances) k l, count-row-above up refl (p .chances) k l)
+
+  -- "No product or sum here passes 2^60 + 2^30": what month t works out at level s with k claims left
   abbrev MonthWithin : Rounding → Question → ℕ → ℕ → ℕ → Type 0
   MonthWithin round q t k s =
-      MonthFits round (p .severity) (nth (p .chances) t) (rows-after round p q t k) (claimed-row (rows-after round p q t) (rule-of q .after-claim k)) s
+      MonthLimits round (p .severity) (nth (p .chances) t) (rows-read round p q t k) (claimed-row (rows-read round p q t) (rule-of q .after-claim k)) s
 
   month-within : (round : Rounding) → Within round → (q : Question) (t k s : ℕ) → MonthWithin round q t k s
   month-within round within q t k s =
-      months-fit round within (p .severity) severity-fits (rule-of q) (last-fits q) (nth (p .chances) t) (chance-fits t)
-      (drop t (p .chances)) (λ i. rw getD-drop (chances-fit (t + i))) k s
+      month-limited
+      (months-fit round within (p .severity) severity-fits (rule-of q) (last-fits q) (nth (p .chances) t) (chance-fits t)
+      (drop t (p .chances)) (λ i. rw getD-drop (chances-fit (t + i))) k s)
 
   pub month-limits : (q : Question) (t k s : ℕ) → MonthWithin down q t k s × MonthWithin up q t k s
   month-limits q t k s = (month-within down down-within q t k s, month-within up up-within q t k s)
 
   -- the same of month t of the count row, over the row of the months before it
   abbrev CountWithin : Rounding → ℕ → ℕ → Type 0
-  CountWithin round t k = CountFits round (nth (p .chances) t) (count-row round (take (t - 1) (p .chances))) k
+  CountWithin round t k = CountLimits (nth (p .chances) t) (count-row round (take (t - 1) (p .chances))) k
 
   count-within : (round : Rounding) → Within round → (t k : ℕ) → CountWithin round t k
-  count-within round within t =
-      count-month-fits round within (nth (p .chances) t) (chance-fits t) (count-row round (take (t - 1) (p .chances)))
-      (count-row-fits round within (take (t - 1) (p .chances)) (take-fits S (t - 1) (p .chances) chances-fit))
+  count-within round within t k =
+      record {
+        month-total =
+            limit _
+            (count-month-fits round within (nth (p .chances) t) (chance-fits t) (count-row round (take (t - 1) (p .chances)))
+            (count-row-fits round within (take (t - 1) (p .chances)) (take-fits S (t - 1) (p .chances) chances-fit)) k .parts);
+      }
 
   pub count-limits : (t k : ℕ) → CountWithin down t k × CountWithin up t k
   count-limits t k = (count-within down down-within t k, count-within up up-within t k)
-
--- the lower bound is at most the upper one
-pub ordered : {p : Plan} {W low high : ℕ} → Encloses p W low high → low ≤ high
-ordered {p} {W} {low} {high} e = le-of-mul-le-mul-right (le-trans (e .below) (e .above)) (positive (2 * horizon p))

@@ -23,8 +23,9 @@ module _
     (R : List ℕ → ℕ → ℕ → Type 0)
     (m₁ m₂ : Month)
     (q : Rule)
+    (last₁ last₂ : ℕ → Row)
     (nothing : (Ps : List ℕ) → R Ps 0 0)
-    (last : (k s : ℕ) → R [] (q .last k s) (q .last k s))
+    (last : (k s : ℕ) → R [] (last₁ k s) (last₂ k s))
     (month-keeps :
     (P : ℕ) (Ps : List ℕ) → P ≤ S → (X Y X′ Y′ : Row) →
     ((s : ℕ) → R Ps (X s) (X′ s)) → ((s : ℕ) → R Ps (Y s) (Y′ s)) →
@@ -45,9 +46,13 @@ module _
     claimed-rel Ps X X′ h none s = nothing Ps
     claimed-rel Ps X X′ h (some k) s = h k s
 
+    -- the rule from other last rows
+    abbrev from : (ℕ → Row) → Rule
+    from rows = record { last = rows; after-claim = q .after-claim; allowed = q .allowed }
+
     pub month-back-rel :
         (P : ℕ) (Ps : List ℕ) → P ≤ S → (N N′ : ℕ → Row) → ((k s : ℕ) → R Ps (N k s) (N′ k s)) →
-        (k s : ℕ) → R (P ∷ Ps) (month-back m₁ q P N k s) (month-back m₂ q P N′ k s)
+        (k s : ℕ) → R (P ∷ Ps) (month-back m₁ (from last₁) P N k s) (month-back m₂ (from last₂) P N′ k s)
     unfolding month-back
     month-back-rel P Ps hP N N′ h k =
         month-keeps P Ps hP _ _ _ _ (rows k)
@@ -56,11 +61,11 @@ module _
         rows : (j s : ℕ) → R Ps (kept (q .allowed) (N j) s) (kept (q .allowed) (N′ j) s)
         rows j = kept-rel Ps (N j) (N′ j) (h j)
 
-    pub values-rel : (Ps : List ℕ) → ((i : ℕ) → getD Ps i 0 ≤ S) → (k s : ℕ) → R Ps (values m₁ q Ps k s) (values m₂ q Ps k s)
+    pub values-rel : (Ps : List ℕ) → ((i : ℕ) → getD Ps i 0 ≤ S) → (k s : ℕ) → R Ps (values m₁ (from last₁) Ps k s) (values m₂ (from last₂) Ps k s)
     unfolding values
     values-rel [] h k s = last k s
     values-rel (P ∷ Ps) h k s =
-        month-back-rel P Ps (h 0) (values m₁ q Ps) (values m₂ q Ps) (values-rel Ps (λ i. h (suc i))) k s
+        month-back-rel P Ps (h 0) (values m₁ (from last₁) Ps) (values m₂ (from last₂) Ps) (values-rel Ps (λ i. h (suc i))) k s
 
 -- S^(2n) for the chances of n months, by recursion
 scale : List ℕ → ℕ
@@ -79,7 +84,7 @@ pub values-enclose :
 unfolding scale
 values-enclose {rel} {round} d F q Ps h k s =
     rw (← scale-is Ps)
-    (values-rel (λ Qs a e. rel (a * scale Qs) e) (month round F) (exact-month F) q
+    (values-rel (λ Qs a e. rel (a * scale Qs) e) (month round F) (exact-month F) q (q .last) (q .last)
     (λ Qs. rw zero-mul (d .same 0))
     (λ j i. rw mul-one (d .same (q .last j i)))
     (λ P Qs hP X Y X′ Y′ hx hy. month-encloses d F P X Y X′ Y′ (scale Qs) hx hy)
@@ -90,7 +95,7 @@ pub values-fit :
     (round : Rounding) → Within round → (F : List ℕ) → total F ≤ S → (q : Rule) → ((k s : ℕ) → q .last k s ≤ S) →
     (Ps : List ℕ) → ((i : ℕ) → getD Ps i 0 ≤ S) → (k s : ℕ) → values (month round F) q Ps k s ≤ S
 values-fit round within F hF q hl =
-    values-rel (λ Qs a b. a ≤ S) (month round F) (month round F) q (λ Qs. omega arith) hl
+    values-rel (λ Qs a b. a ≤ S) (month round F) (month round F) q (q .last) (q .last) (λ Qs. omega arith) hl
     (λ P Qs hP X Y X′ Y′ hx hy s. month-fits round within F hF P hP X Y hx hy s .value)
 
 pub live-months-idle : (Ps : List ℕ) → live-months (0 ∷ Ps) ≡ live-months Ps
@@ -106,7 +111,7 @@ pub values-gap :
     (F : List ℕ) → total F ≤ S → (q : Rule) (Ps : List ℕ) → ((i : ℕ) → getD Ps i 0 ≤ S) →
     (k s : ℕ) → values (month up F) q Ps k s ≤ values (month down F) q Ps k s + month-gap * live-months Ps
 values-gap F hF q =
-    values-rel (λ Qs a b. b ≤ a + month-gap * live-months Qs) (month down F) (month up F) q
+    values-rel (λ Qs a b. b ≤ a + month-gap * live-months Qs) (month down F) (month up F) q (q .last) (q .last)
     (λ Qs. omega arith) (λ k s. omega arith) step
   where
     step :

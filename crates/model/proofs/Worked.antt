@@ -10,9 +10,9 @@ use Rattle.model.specs.Exact.{survives, keeps, weight-of, exact}
 use Rattle.model.specs.MonthRule.{claim-sum, month, kept, claimed-row, month-back, values, all-placed, one-fewer, rule-of, claims-of, value}
 use Rattle.model.specs.FirstClaim.{first-claim-in, some-claim, first-claim, first-claim-survival}
 use Rattle.model.specs.Bounds.{bound}
-use Rattle.model.specs.Refusal.{first, head-checks, length-check, tail-reachable, number-checks, plan-checks, plan-refusal}
+use Rattle.model.specs.Refusal.{first, head-checks, length-check, tail-survivable, number-checks, plan-checks, plan-refusal}
 use Rattle.model.specs.Funds.{starred, published, right}
 
 pub starred-right : all right starred ≡ true
-unfolding S down up sum product one-to total count all any nth plan-of events histories event-weight history-weight next-surplus surplus-path at-least at-most is-claim claims survives keeps weight-of exact claim-sum month kept claimed-row month-back values all-placed one-fewer rule-of claims-of value first-claim-in some-claim first-claim first-claim-survival bound first head-checks length-check tail-reachable number-checks plan-checks plan-refusal starred published right flatMap zipWith
+unfolding S down up sum product one-to total count all any nth plan-of events histories event-weight history-weight next-surplus surplus-path at-least at-most is-claim claims survives keeps weight-of exact claim-sum month kept claimed-row month-back values all-placed one-fewer rule-of claims-of value first-claim-in some-claim first-claim first-claim-survival bound first head-checks length-check tail-survivable number-checks plan-checks plan-refusal starred published right flatMap zipWith
 starred-right = refl

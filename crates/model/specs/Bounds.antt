@@ -1,13 +1,13 @@
 -- The two bounds of an answer, and what demand 3 says of them.
-use Prim.Native.Nat.{ℕ, _+_, _*_, _^_, _≤_}
+use Prim.Native.Nat.{ℕ, _+_, _*_, _-_, _^_, _≤_}
 use mathlib.Core.List.{List}
 use lib.Dec.{ltb}
 use Rattle.model.specs.declared.Question.{Question}
 use Rattle.model.specs.Scale.{S, Rounding, down, up}
 use Rattle.model.specs.Sums.{count}
-use Rattle.model.specs.Plan.{Plan, horizon}
-use Rattle.model.specs.MonthRule.{month, value}
-use Rattle.model.specs.CountRow.{count-row}
+use Rattle.model.specs.Plan.{Plan, horizon, nth}
+use Rattle.model.specs.MonthRule.{Row, claim-sum, month, value}
+use Rattle.model.specs.CountRow.{one-before, count-row}
 
 -- the month rule's answer, rounded
 unfoldable pub bound : Rounding → Plan → Question → ℕ
@@ -40,3 +40,17 @@ pub record Encloses (p : Plan) (W low high : ℕ) : Type 0 where
   pub above : W * S ≤ high * S ^ (2 * horizon p)
   -- "Gap rule: upper ≤ lower + 2 × Z"
   pub gap : high ≤ low + month-gap * live-months (p .chances)
+
+-- "No product or sum here passes 2^60 + 2^30."
+unfoldable pub largest : ℕ
+largest = 2 ^ 60 + 2 ^ 30
+
+-- … said of a month at a level: of each product, and of each sum with the S − 1 that rounding up adds to it
+pub record MonthLimits (round : Rounding) (severity : List ℕ) (P : ℕ) (quiet claimed : Row) (s : ℕ) : Type 0 where
+  pub product : (x r : ℕ) → nth severity x * claimed r ≤ largest
+  pub claim-total : claim-sum severity claimed s + (S - 1) ≤ largest
+  pub month-total : (S - P) * quiet (s + 1) + P * round (claim-sum severity claimed s) + (S - 1) ≤ largest
+
+-- … and of a month of the count row at a place
+pub record CountLimits (P : ℕ) (row : Row) (k : ℕ) : Type 0 where
+  pub month-total : P * one-before row k + (S - P) * row k + (S - 1) ≤ largest

@@ -4,7 +4,7 @@ use mathlib.Core.List.{List}
 use lib.ListN.{length, getD, take, drop}
 use Rattle.model.specs.declared.Head.{Head}
 
--- "A plan has months n, opening u, sizes m, a chance P_t for each month t = 1 to n, a weight F_x for each claim size x = 1 to m, and a weight
+-- "A plan has months n …, opening u …, sizes m …, a chance P_t for each month t = 1 to n, a weight F_x for each claim size x = 1 to m, and a weight
 -- "over" for all sizes above m." The months are as many as the chances, the sizes as many as the weights F_x; `tail` is document 01's "over".
 pub record Plan : Type 0 where
   pub opening : ℕ
@@ -23,11 +23,11 @@ unfoldable pub nth : List ℕ → ℕ → ℕ
 nth xs zero = 0
 nth xs (suc i) = getD xs i 0
 
--- "a row of n + m + 1 numbers"
+-- "a row of n + m + 1 numbers of 32 bits"
 abbrev pub row-length : Head → ℕ
 row-length h = h .months + h .sizes + 1
 
--- "In memory a plan is a head (n, u, m) and a row of n + m + 1 numbers: chances, weights, over."
+-- "In memory a plan is a head (n, u, m) and a row of n + m + 1 numbers of 32 bits: chances, weights, over."
 unfoldable pub plan-of : Head → List ℕ → Plan
 plan-of h row =
     record {

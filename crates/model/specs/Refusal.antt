@@ -33,15 +33,15 @@ unfoldable pub length-check : Head → List ℕ → ℕ × Bool
 length-check h row = (5, not (eqb (length row) (row-length h)))
 
 -- "over above 0 is accepted only if m + 1 ≥ u + n, also when n = 0"
-unfoldable pub tail-reachable : Plan → Bool
-tail-reachable p = ltb 0 (p .tail) && ltb (sizes p + 1) (p .opening + horizon p)
+unfoldable pub tail-survivable : Plan → Bool
+tail-survivable p = ltb 0 (p .tail) && ltb (sizes p + 1) (p .opening + horizon p)
 
 -- 7 chance, 8 weights, 9 tail
 unfoldable pub number-checks : Head → List ℕ → List (ℕ × Bool)
 number-checks h row =
     (7, any (ltb S) row)
     ∷ (8, not (eqb (total (p .severity) + p .tail) S))
-    ∷ (9, tail-reachable p)
+    ∷ (9, tail-survivable p)
     ∷ []
   where
     p : Plan

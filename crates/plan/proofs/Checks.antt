@@ -12,7 +12,7 @@ use Rattle.model.specs.declared.Head.{Head}
 use Rattle.model.specs.Scale.{S}
 use Rattle.model.specs.Sums.{total, any}
 use Rattle.model.specs.Plan.{plan-of, row-length}
-use Rattle.model.specs.Refusal.{first, head-checks, length-check, number-checks, tail-reachable, plan-checks, plan-refusal}
+use Rattle.model.specs.Refusal.{first, head-checks, length-check, number-checks, tail-survivable, plan-checks, plan-refusal}
 use Rattle.model.proofs.Facts.{first-append, head-numbered, horizon-is, sizes-is}
 use Rattle.plan.proofs.Rows.{total-last}
 
@@ -59,6 +59,6 @@ module _ (h : Head) (row : List ℕ) where
           (not (eqb sum S))
           8
           (cond (ltb 0 (getD row (h .months + h .sizes) 0) && ltb (h .sizes + 1) (h .opening + h .months)) 9 0)
-      unfolding first number-checks tail-reachable plan-of
+      unfolding first number-checks tail-survivable plan-of
       by-weights within sum sum-is =
           by-numbers ∙ rw (within, horizon-is h row row-is, sizes-is h row row-is, weights-are row-is, sum-is)

@@ -26,7 +26,7 @@ use Rattle.engine.proofs.RowLaws.{length-tabulate, getD-tabulate}
 use Rattle.engine.proofs.AskLaws.{workspace-fits, ask-refusal-is}
 use Rattle.report.specs.Text.{space, line, joined, Appended}
 use Rattle.report.proofs.TextLaws.{entry-at-most, line-at-most, joined-at-most, joined-same}
-use Rattle.report.specs.Report.{refused-word, row-room, plan-report, report-of, months-word, opening-word, sizes-word, head-line, head-room, word-of, claims-word, bounds-line, question-line, question-at, question-lines, claims-line, claims-at, claims-of, claims-lines, both-lines, high-lines, line-room, both-most, high-most, CountsOf, workspace-room}
+use Rattle.report.specs.Report.{refused-word, row-room, plan-report, report-of, months-word, opening-word, sizes-word, head-line, head-room, word-of, claims-word, bounds-line, question-line, question-at, question-lines, claims-line, claims-at, claims-line-of, claims-lines, both-lines, high-lines, line-room, both-most, high-most, CountsOf, workspace-room}
 
 bounds-short : (q : Question) (low high : ℕ) → length (bounds-line q low high) ≤ line-room
 bounds-short Survive low high = omega (arith, line-at-most (word-of Survive) (low ∷ high ∷ []))
@@ -88,7 +88,7 @@ question-ends p q e = omega (arith, e .ends, question-short p q)
 
 pub claims-end : (p : Plan) (n : ℕ) {b b′ : List ℕ} {at end : ℕ} → Appended b at (claims-lines p n) b′ end → end ≤ at + (n + 1) * line-room
 unfolding claims-lines
-claims-end p n e = omega (arith, e .ends, joined-at-most (claims-of p) line-room (λ k. claims-short k _ _) (n + 1))
+claims-end p n e = omega (arith, e .ends, joined-at-most (claims-line-of p) line-room (λ k. claims-short k _ _) (n + 1))
 
 -- What asking answers on an accepted plan
 pub asked :

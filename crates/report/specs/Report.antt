@@ -80,12 +80,12 @@ claims-line k low high = line claims-word (k ∷ low ∷ high ∷ [])
 abbrev pub claims-at : List ℕ → List ℕ → ℕ → List ℕ
 claims-at lowers uppers k = claims-line k (getD lowers k 0) (getD uppers k 0)
 
-abbrev pub claims-of : Plan → ℕ → List ℕ
-claims-of p k = claims-line k (count-lower p k) (count-upper p k)
+abbrev pub claims-line-of : Plan → ℕ → List ℕ
+claims-line-of p k = claims-line k (count-lower p k) (count-upper p k)
 
 -- "Claims run 0 to n"
 unfoldable pub claims-lines : Plan → ℕ → List ℕ
-claims-lines p n = joined (n + 1) (claims-of p)
+claims-lines p n = joined (n + 1) (claims-line-of p)
 
 -- "both 0 to the lesser of n and 24, high 1 to u + n, low 1 to u + 1"
 abbrev pub both-lines : Plan → Head → List ℕ

@@ -32,7 +32,7 @@ fn ask(record: Record, question: Question, row: &[u32]) {
     let fill = record.fill;
     let mut workspace = workspace(fill);
     if room <= ROOM {
-        ask_over(Ask { head, question }, row, &mut workspace[..room]);
+        ask_in(Ask { head, question }, row, &mut workspace[..room]);
     }
 }
 
@@ -43,7 +43,7 @@ fn workspace(fill: u32) -> [u32; ROOM]
     [fill; ROOM]
 }
 
-fn ask_over(ask: Ask, row: &[u32], workspace: &mut [u32]) {
+fn ask_in(ask: Ask, row: &[u32], workspace: &mut [u32]) {
     let answer = engine::ask(ask, row, workspace);
     text::first(answer.refusal as u64);
     text::next(answer.lower as u64);

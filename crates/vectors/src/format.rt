@@ -10,11 +10,11 @@ pub fn write(record: Record, row: &[u32]) {
     let fill = record.fill_byte;
     let mut bytes = record::bytes(fill);
     if room <= record::BYTES {
-        write_over(head, row, &mut bytes[..room]);
+        write_into(head, row, &mut bytes[..room]);
     }
 }
 
-fn write_over(head: Head, row: &[u32], bytes: &mut [u8]) {
+fn write_into(head: Head, row: &[u32], bytes: &mut [u8]) {
     let answer = codec::write(head, row, bytes);
     text::first(answer.refusal as u64);
     text::next(answer.length as u64);
@@ -37,11 +37,11 @@ fn read_from(record: Record, bytes: &mut [u8]) {
     let fill = record.fill;
     let mut row = record::row(fill);
     if room <= record::ROW {
-        read_over(bytes, &mut row[..room]);
+        read_into(bytes, &mut row[..room]);
     }
 }
 
-fn read_over(bytes: &[u8], row: &mut [u32]) {
+fn read_into(bytes: &[u8], row: &mut [u32]) {
     let answer = codec::read(bytes, row);
     let head = answer.head;
     text::first(answer.refusal as u64);

@@ -11,11 +11,11 @@ workspace-requires c κs = search needs
 array-borrow-prefix-workspace : tie.Need-array-borrow-prefix-workspace
 array-borrow-prefix-workspace c = search needs
 
-slice-aggregate-ask-over : tie.Need-slice-aggregate-ask-over
-slice-aggregate-ask-over c = sym (length-take-le _ _ (search needs))
+slice-aggregate-ask-in : tie.Need-slice-aggregate-ask-in
+slice-aggregate-ask-in c = sym (length-take-le _ _ (search needs))
 
-ask-over-requires : tie.Need-ask-over-requires
-ask-over-requires c κs = search needs
+ask-in-requires : tie.Need-ask-in-requires
+ask-in-requires c κs = search needs
 
 returns : tie.Need-returns
 returns c = search needs
@@ -29,7 +29,7 @@ ask-spec =
     (tie.spec
     workspace-requires
     array-borrow-prefix-workspace
-    slice-aggregate-ask-over
-    ask-over-requires
+    slice-aggregate-ask-in
+    ask-in-requires
     returns
     returns-2)

@@ -14,11 +14,11 @@ row-requires c κs = search needs
 array-borrow-prefix-row : tie.Need-array-borrow-prefix-row
 array-borrow-prefix-row c = search needs
 
-slice-aggregate-read-over : tie.Need-slice-aggregate-read-over
-slice-aggregate-read-over c = sym (length-take-le _ _ (search needs))
+slice-aggregate-read-into : tie.Need-slice-aggregate-read-into
+slice-aggregate-read-into c = sym (length-take-le _ _ (search needs))
 
-read-over-requires : tie.Need-read-over-requires
-read-over-requires c κs = search needs
+read-into-requires : tie.Need-read-into-requires
+read-into-requires c κs = search needs
 
 same-length : tie.Need-same-length
 same-length c = search needs
@@ -39,8 +39,8 @@ read-from-spec =
     read-full-requires
     row-requires
     array-borrow-prefix-row
-    slice-aggregate-read-over
-    read-over-requires
+    slice-aggregate-read-into
+    read-into-requires
     same-length
     returns
     same-length-2

@@ -11,11 +11,11 @@ bytes-requires c κs = search needs
 array-borrow-prefix-bytes : tie.Need-array-borrow-prefix-bytes
 array-borrow-prefix-bytes c = search needs
 
-slice-aggregate-write-over : tie.Need-slice-aggregate-write-over
-slice-aggregate-write-over c = sym (length-take-le _ _ (search needs))
+slice-aggregate-write-into : tie.Need-slice-aggregate-write-into
+slice-aggregate-write-into c = sym (length-take-le _ _ (search needs))
 
-write-over-requires : tie.Need-write-over-requires
-write-over-requires c κs = search needs
+write-into-requires : tie.Need-write-into-requires
+write-into-requires c κs = search needs
 
 returns : tie.Need-returns
 returns c = search needs
@@ -29,7 +29,7 @@ write-spec =
     (tie.spec
     bytes-requires
     array-borrow-prefix-bytes
-    slice-aggregate-write-over
-    write-over-requires
+    slice-aggregate-write-into
+    write-into-requires
     returns
     returns-2)
