@@ -9,6 +9,7 @@ Written from document 01 and its source documents alone, not from the engine or 
   reference.py vectors DIR        DIR/stdin and DIR/stdout of the test program over the calls
   reference.py cases              one line for each line of that stdout: what was called
   reference.py example DIR        DIR/stdin and DIR/stdout of the reserve report: document 01's example
+  reference.py reports DIR        DIR/stdin and DIR/stdout of many reserve reports, the largest included: takes minutes
 """
 import itertools
 import math
@@ -24,7 +25,7 @@ MONTHS, OPENING, SIZES, CLAIMS, LEVEL = 60, 200, 260, 24, 260
 PLACES = MONTHS + 1
 
 Head = namedtuple("Head", "months opening sizes")
-Plan = namedtuple("Plan", "opening chances weights over")
+Plan = namedtuple("Plan", "opening chances weights tail")
 Question = namedtuple("Question", "word number")
 SURVIVE = Question("survive", 0)
 
@@ -213,11 +214,11 @@ def report(data):
 
 # ---- Exact chances on small plans: every history is listed
 
-NO_CLAIM, OVER = 0, math.inf  # a month's event is one of these or a claim's size
+NO_CLAIM, TAIL = 0, math.inf  # a month's event is one of these (TAIL is an over claim) or a claim's size
 
 
 def histories(plan):
-    events = [NO_CLAIM, *range(1, len(plan.weights) + 1), OVER]
+    events = [NO_CLAIM, *range(1, len(plan.weights) + 1), TAIL]
     return itertools.product(events, repeat=len(plan.chances))
 
 
@@ -226,8 +227,8 @@ def history_weight(plan, history):
     for chance, event in zip(plan.chances, history):
         if event == NO_CLAIM:
             weight *= (S - chance) * S
-        elif event == OVER:
-            weight *= chance * plan.over
+        elif event == TAIL:
+            weight *= chance * plan.tail
         else:
             weight *= chance * plan.weights[event - 1]
     return weight
@@ -433,9 +434,9 @@ WORKED = [  # head, row, question, number, lower, upper
 ]
 
 
-def flat(n, u, m, over=0):
-    """A plan with every chance S/2 and all weight on the largest size, less over."""
-    return Head(n, u, m), [S // 2] * n + [0] * (m - 1) + [S - over, over]
+def flat(n, u, m, tail=0):
+    """A plan with every chance S/2 and all weight on the largest size, less the tail."""
+    return Head(n, u, m), [S // 2] * n + [0] * (m - 1) + [S - tail, tail]
 
 
 def changed(row, at, x):
@@ -510,18 +511,33 @@ def fault_pairs():
         yield FAULTS[one](*FAULTS[other](*flat(3, 4, 5), SURVIVE, 16))
 
 
+# What turns bytes away by their numbers: each takes a row to one that the number fits.
+BYTE_FAULTS = {
+    7: lambda row: changed(row, 0, S + 1),
+    8: lambda row: changed(row, 3, 7),
+    9: lambda row: changed(changed(row, -1, 1), -2, S - 1),
+}
+
+
 def damaged_bytes():
     """Plan bytes on both sides of each check of reading."""
     data = write_bytes(*EXAMPLE)
     for length in range(len(data) + 2):
         yield (data + b"\0")[:length]
-    for bit in range(24, 8 * len(data)):
+    for bit in range(8 * len(data)):
         yield (int.from_bytes(data, "big") ^ 1 << (8 * len(data) - 1 - bit)).to_bytes(len(data), "big")
     for n, u, m in ((60, 200, 260), (61, 200, 260), (60, 201, 260), (60, 200, 261), (127, 255, 511), (60, 200, 0), (0, 0, 1), (0, 0, 0)):
         head = Head(n, u, m)
         plain = write_bytes(head, ([0] * n + [S] + [0] * m)[: row_length(head)])
         yield from (plain, plain + b"\0", plain[:-1])
     yield b"\xff" * 1248
+    for n, u, m in ((1, 2, 2), (1, 3, 2), (0, 3, 2), (0, 4, 2), (60, 200, 259), (60, 200, 258)):  # over, at m + 1 = u + n and one below
+        yield write_bytes(*flat(n, u, m, 1))
+    for one, other in itertools.combinations(BYTE_FAULTS, 2):
+        head, row = flat(3, 4, 5)
+        data = write_bytes(head, BYTE_FAULTS[one](BYTE_FAULTS[other](row)))
+        yield data
+        yield data[:-1] + bytes([data[-1] | 1])  # and a fill bit
 
 
 def all_calls():
@@ -560,6 +576,44 @@ def all_calls():
     return calls
 
 
+# ---- Plans whose whole report is held to this program
+
+
+def refused_bytes():
+    """Plan bytes that the numbers 1 to 9 turn away, in this order."""
+    head, row = flat(3, 4, 5)
+    good, longest = write_bytes(head, row), write_bytes(*flat(MONTHS, OPENING, SIZES))
+    yield from (b"", good[:2])
+    yield write_bytes(*flat(MONTHS + 1, 4, 5))
+    yield write_bytes(*flat(3, OPENING + 1, 5))
+    yield write_bytes(*flat(3, 4, SIZES + 1))
+    yield write_bytes(Head(3, 4, 0), row[:3] + [S])
+    yield from (good[:3], good[:-1], good + b"\0", longest[:-1], longest + b"\0", longest * 2)
+    yield good[:-1] + bytes([good[-1] | 1])
+    yield REPORT_BYTES[:-1] + bytes([16])  # the first of five fill bits
+    for at in (0, 3, 8):  # a chance, a weight, over
+        yield write_bytes(head, changed(row, at, S + 1))
+    yield from (write_bytes(head, changed(row, 7, S - 1)), write_bytes(head, changed(row, 8, 1)))
+    yield write_bytes(*flat(3, 4, 5, 1))
+
+
+def reported_plans(rng):
+    """Accepted plans, from the smallest to the largest."""
+    yield from (EXAMPLE, (Head(0, 0, 1), ONE_SIZE), flat(0, 7, 3), flat(0, 7, 6, S // 3), flat(1, 0, 1), flat(3, 4, 6, 1))
+    for u, chance in itertools.product((0, 9), (0, S)):
+        yield Head(12, u, 6), [chance] * 12 + split(rng, 6, 0) + [0]
+    for n, u, m in ((1, 200, 260), (60, 0, 1), (23, 12, 5), (24, 0, 30), (25, 10, 34), (36, 20, 12)):
+        yield some_plan(rng, n, u, m)
+    yield Head(30, 15, 50), [rng.randrange(S // 4) for _ in range(30)] + geometric(50)
+    yield Head(MONTHS, OPENING, SIZES), [rng.randrange(1, S // 25) for _ in range(MONTHS)] + split(rng, SIZES + 1, 0)
+
+
+def reported_bytes():
+    yield from refused_bytes()
+    for head, row in reported_plans(random.Random(3)):
+        yield write_bytes(head, row)
+
+
 # ---- The self-test
 
 
@@ -587,7 +641,7 @@ def check_plan(tally, head, row):
     whole = S ** (2 * n)
     listed = [(history_weight(plan, h), levels(plan, h), claims(h)) for h in histories(plan)]
     tally.check("all histories weigh S^(2n)", sum(weight for weight, _, _ in listed) == whole, (head, row))
-    tally.check("an over claim of the least size ruins", plan.over == 0 or head.opening + n - (head.sizes + 1) <= 0, (head, row))
+    tally.check("an over claim of the least size ruins", plan.tail == 0 or head.opening + n - (head.sizes + 1) <= 0, (head, row))
     p = [Fraction(chance, S) for chance in plan.chances]
 
     def f(x):
@@ -664,6 +718,10 @@ def main(words):
     elif len(words) == 2 and words[0] == "example":
         Path(words[1], "stdin").write_bytes(REPORT_BYTES)
         Path(words[1], "stdout").write_text(REPORT_TEXT)
+    elif len(words) == 2 and words[0] == "reports":
+        plans = list(reported_bytes())
+        Path(words[1], "stdin").write_bytes(b"".join(len(data).to_bytes(2, "big") + data for data in plans))
+        Path(words[1], "stdout").write_text("".join(map(report, plans)))
     elif len(words) > 4 and words[0] == "plan":
         n, u, m, *row = map(int, words[1:])
         number = refusal_of_write(Head(n, u, m), row, math.inf)

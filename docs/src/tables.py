@@ -13,7 +13,7 @@ import sys
 from fractions import Fraction
 from pathlib import Path
 
-S = 2**30
+from reference import Head, S, write_bytes
 
 # Table 1: the chance of a claim in month i
 CASES = {
@@ -47,9 +47,7 @@ def plan_bytes(n, u, alpha, chance):
     m = u + n
     weights = [int((1 - alpha) * alpha ** (x - 1) * S) for x in range(1, m + 1)]
     row = [int(chance(i) * S) for i in range(1, n + 1)] + weights + [S - sum(weights)]
-    bits = f"{n:07b}{u:08b}{m:09b}" + "".join(f"{x:031b}" for x in row)
-    bits += "0" * (-len(bits) % 8)
-    return int(bits, 2).to_bytes(len(bits) // 8, "big")
+    return write_bytes(Head(n, u, m), row)
 
 
 def main(folder):

@@ -1,0 +1,203 @@
+//! Document 01 as a plain Rust program: plan bytes on standard input, the reserve report on standard output.
+//!
+//!   rustc -O docs/src/baseline.rs -o OUT
+//!
+//! Written from document 01 alone, not from the engine or its definitions. It has the rows and the order of work of the document: two rows of
+//! u + n + 1 numbers for a question, k + 1 times that for both k, each replaced in place month by month, from the highest level down.
+use std::fmt::Write as _;
+use std::io::{self, Read, Write as _};
+
+const S: u64 = 1 << 30;
+const MONTHS: usize = 60;
+const OPENING: usize = 200;
+const SIZES: usize = 260;
+const CLAIMS: usize = 24;
+
+struct Plan {
+    opening: usize,
+    chances: Vec<u32>,
+    weights: Vec<u32>,
+}
+
+#[derive(Clone, Copy)]
+enum Question {
+    Survive,
+    Both(usize),
+    High(usize),
+    Low(usize),
+}
+
+/// What is added before a division by S, so that it rounds down or up.
+const ROUNDINGS: [u64; 2] = [0, S - 1];
+
+// ---- Plan bytes
+
+struct Bits<'a> {
+    bytes: &'a [u8],
+    at: usize,
+}
+
+impl Bits<'_> {
+    /// The next number of this width, most significant bit first.
+    fn take(&mut self, width: usize) -> u64 {
+        let mut number = 0;
+        for at in self.at..self.at + width {
+            number = number << 1 | u64::from(self.bytes[at / 8] >> (7 - at % 8) & 1);
+        }
+        self.at += width;
+        number
+    }
+}
+
+/// The plan, or the number that turns the bytes away.
+fn read(bytes: &[u8]) -> Result<Plan, u32> {
+    if bytes.len() < 3 {
+        return Err(1);
+    }
+    let mut bits = Bits { bytes, at: 0 };
+    let n = bits.take(7) as usize;
+    let u = bits.take(8) as usize;
+    let m = bits.take(9) as usize;
+    if n > MONTHS {
+        return Err(2);
+    }
+    if u > OPENING {
+        return Err(3);
+    }
+    if m == 0 || m > SIZES {
+        return Err(4);
+    }
+    if bytes.len() != (bits.at + 31 * (n + m + 1)).div_ceil(8) {
+        return Err(5);
+    }
+    let row: Vec<u64> = (0..n + m + 1).map(|_| bits.take(31)).collect();
+    if bits.take(8 * bytes.len() - bits.at) != 0 {
+        return Err(6);
+    }
+    if row.iter().any(|&x| x > S) {
+        return Err(7);
+    }
+    if row[n..].iter().sum::<u64>() != S {
+        return Err(8);
+    }
+    if row[n + m] > 0 && m + 1 < u + n {
+        return Err(9);
+    }
+    let row: Vec<u32> = row.iter().map(|&x| x as u32).collect();
+    Ok(Plan { opening: u, chances: row[..n].to_vec(), weights: row[n..n + m].to_vec() })
+}
+
+// ---- The month rule
+
+/// The sum over x = 1 .. min(s, m) of F_x × row(s + 1 − x).
+fn claim_sum(weights: &[u32], row: &[u32], s: usize) -> u64 {
+    let mut sum = 0;
+    for (&weight, &value) in weights.iter().zip(row[1..=s].iter().rev()) {
+        sum += u64::from(weight) * u64::from(value);
+    }
+    sum
+}
+
+/// One month over the levels from `top` down to 0, in place. `claims` is the claim sum at a level, from the row as it is then.
+fn month(row: &mut [u32], top: usize, chance: u32, add: u64, claims: impl Fn(&[u32], usize) -> u64) {
+    let chance = u64::from(chance);
+    let mut above = u64::from(row[top + 1]);
+    for s in (0..=top).rev() {
+        let claimed = (claims(row, s) + add) / S;
+        let value = ((S - chance) * above + chance * claimed + add) / S;
+        above = u64::from(row[s]);
+        row[s] = value as u32;
+    }
+}
+
+/// From the rows at the end of month t to those before it.
+fn month_of(plan: &Plan, question: Question, t: usize, add: u64, rows: &mut [u32]) {
+    let span = plan.opening + plan.chances.len() + 1;
+    let (chance, top) = (plan.chances[t - 1], plan.opening + t - 1);
+    let claims = |row: &[u32], s| claim_sum(&plan.weights, row, s);
+    match question {
+        Question::Survive => {}
+        Question::High(level) => rows[(level + 1).min(span)..].fill(0),
+        Question::Low(level) => rows[..level.min(span)].fill(0),
+        Question::Both(k) => {
+            for left in (1..=k).rev() {
+                let (fewer, row) = rows[(left - 1) * span..].split_at_mut(span);
+                month(row, top, chance, add, |_, s| claims(fewer, s));
+            }
+            return month(&mut rows[..span], top, chance, add, |_, _| 0);
+        }
+    }
+    month(rows, top, chance, add, claims);
+}
+
+/// V_0(u) in one rounding; `rows` has a row for each number of claims left, and none left comes first.
+fn value(plan: &Plan, question: Question, add: u64, rows: &mut [u32]) -> u32 {
+    let span = plan.opening + plan.chances.len() + 1;
+    rows.fill(0);
+    rows[..span].fill(S as u32);
+    for t in (1..=plan.chances.len()).rev() {
+        month_of(plan, question, t, add, rows);
+    }
+    rows[rows.len() - span + plan.opening]
+}
+
+/// The lower and the upper bound, each in its half of the rows.
+fn bounds(plan: &Plan, question: Question, workspace: &mut [u32]) -> [u32; 2] {
+    let rows = if let Question::Both(k) = question { k + 1 } else { 1 };
+    let half = rows * (plan.opening + plan.chances.len() + 1);
+    let (lower, upper) = workspace[..2 * half].split_at_mut(half);
+    [value(plan, question, ROUNDINGS[0], lower), value(plan, question, ROUNDINGS[1], upper)]
+}
+
+fn count_row(plan: &Plan, add: u64) -> [u32; MONTHS + 1] {
+    let mut row = [0; MONTHS + 1];
+    row[0] = S as u32;
+    for &chance in &plan.chances {
+        let chance = u64::from(chance);
+        for k in (0..=MONTHS).rev() {
+            let fewer = if k > 0 { u64::from(row[k - 1]) } else { 0 };
+            row[k] = ((chance * fewer + (S - chance) * u64::from(row[k]) + add) / S) as u32;
+        }
+    }
+    row
+}
+
+// ---- The reserve report
+
+fn put(text: &mut String, word: &str, number: Option<usize>, [lower, upper]: [u32; 2]) {
+    match number {
+        Some(number) => writeln!(text, "{word} {number} {lower} {upper}").unwrap(),
+        None => writeln!(text, "{word} {lower} {upper}").unwrap(),
+    }
+}
+
+fn report(plan: &Plan) -> String {
+    let (n, u, m) = (plan.chances.len(), plan.opening, plan.weights.len());
+    let mut workspace = vec![0; 2 * (u + n + 1) * (CLAIMS + 1)];
+    let mut text = format!("months {n} opening {u} sizes {m}\n");
+    put(&mut text, "survive", None, bounds(plan, Question::Survive, &mut workspace));
+    let counts = ROUNDINGS.map(|add| count_row(plan, add));
+    for k in 0..=n {
+        put(&mut text, "claims", Some(k), [counts[0][k], counts[1][k]]);
+    }
+    for k in 0..=n.min(CLAIMS) {
+        put(&mut text, "both", Some(k), bounds(plan, Question::Both(k), &mut workspace));
+    }
+    for level in 1..=u + n {
+        put(&mut text, "high", Some(level), bounds(plan, Question::High(level), &mut workspace));
+    }
+    for level in 1..=u + 1 {
+        put(&mut text, "low", Some(level), bounds(plan, Question::Low(level), &mut workspace));
+    }
+    text
+}
+
+fn main() -> io::Result<()> {
+    let mut bytes = Vec::new();
+    io::stdin().read_to_end(&mut bytes)?;
+    let text = match read(&bytes) {
+        Ok(plan) => report(&plan),
+        Err(number) => format!("refused {number}\n"),
+    };
+    io::stdout().write_all(text.as_bytes())
+}

@@ -1,0 +1,185 @@
+#!/usr/bin/env python3
+"""Holds two programs for the reserve report against each other.
+
+  compare.py PROGRAM REFERENCE [COUNT]
+
+Makes COUNT (100) random accepted plans of all sizes and as many damaged ones, always the same, hands each to both programs on standard input,
+and compares what they write, byte for byte. The last line is the number of differences.
+"""
+import random
+import subprocess
+import sys
+import time
+from collections import Counter
+
+from reference import CLAIMS, MONTHS, OPENING, SIZES, S, Head, byte_length, geometric, row_length, some_chance, split, write_bytes
+
+# ---- Accepted plans
+
+
+def some_number(rng, least, most, *edges):
+    return rng.choice([least, most, *edges, *(rng.randint(least, most) for _ in range(8))])
+
+
+def some_head(rng):
+    n, u = some_number(rng, 0, MONTHS, 1, CLAIMS, CLAIMS + 1), some_number(rng, 0, OPENING, 1)
+    tail_rule = [m for m in (u + n - 2, u + n - 1) if 1 <= m <= SIZES]  # the last that it refuses and the first that it allows
+    return Head(n, u, some_number(rng, 1, SIZES, 2, *tail_rule))
+
+
+def some_chances(rng, n):
+    most = rng.choice([1, S // 100, S // 10, S // 3, S])
+    return rng.choice([
+        [0] * n,
+        [S] * n,
+        [rng.randint(0, most)] * n,
+        [rng.randint(0, most) for _ in range(n)],
+        [most * t // n for t in range(n)],
+        [some_chance(rng) for _ in range(n)],
+    ])
+
+
+def filled(rng, parts, places):
+    """parts numbers that add to S, none of them above 0 but at this many places or fewer."""
+    numbers = [0] * parts
+    for share in split(rng, places, 0):
+        numbers[rng.randrange(parts)] += share
+    return numbers
+
+
+def some_weights(rng, parts):
+    ones = [1] * parts
+    ones[rng.randrange(parts)] = S - parts + 1
+    return rng.choice([
+        *(split(rng, parts, empty) for empty in (0, 2, 7)),
+        *(filled(rng, parts, places) for places in (1, 2, 10)),
+        geometric(parts - 1),
+        ones,
+    ])
+
+
+def some_row(rng, head):
+    """Over may be above 0 in half of the rows where the tail rule allows it."""
+    n, u, m = head
+    parts = m + 1 if m + 1 >= u + n and rng.randrange(2) else m
+    return some_chances(rng, n) + some_weights(rng, parts) + [0] * (m + 1 - parts)
+
+
+def accepted(rng):
+    head = some_head(rng)
+    return write_bytes(head, some_row(rng, head))
+
+
+# ---- Damaged ones, though a flipped bit may leave an accepted plan
+
+
+def flipped(data, at):
+    return (int.from_bytes(data, "big") ^ 1 << (8 * len(data) - 1 - at)).to_bytes(len(data), "big")
+
+
+def in_head(rng, head, row):
+    return flipped(write_bytes(head, row), rng.randrange(24))
+
+
+def in_row(rng, head, row):
+    return flipped(write_bytes(head, row), 24 + rng.randrange(31 * row_length(head)))
+
+
+def in_padding(rng, head, row):
+    """A bit of the padding, or the row's last where there is none."""
+    data = write_bytes(head, row)
+    padding = 24 + 31 * row_length(head)
+    return flipped(data, min(rng.randrange(padding, padding + 8), 8 * len(data) - 1))
+
+
+def one_more(rng, head, row):
+    """A number of the row is one more or one less."""
+    at = rng.randrange(len(row))
+    step = 1 if row[at] == 0 or rng.randrange(2) else -1
+    return write_bytes(head, row[:at] + [row[at] + step] + row[at + 1 :])
+
+
+def with_tail(rng, head, row):
+    """A part of one weight goes to over."""
+    at = rng.choice([i for i in range(head.months, len(row)) if row[i] > 0])
+    part = rng.randint(1, row[at])
+    after = list(row)
+    after[at] -= part
+    after[-1] += part
+    return write_bytes(head, after)
+
+
+def shortened(rng, head, row):
+    data = write_bytes(head, row)
+    return data[: rng.choice([rng.randrange(len(data)), rng.randrange(4), len(data) - 1])]
+
+
+def lengthened(rng, head, row):
+    return write_bytes(head, row) + rng.choice([bytes, rng.randbytes])(rng.choice([1, 2, rng.randrange(1, 1300), 5000]))
+
+
+def random_row(rng, head, row):
+    data = write_bytes(head, row)
+    return data[:3] + rng.randbytes(len(data) - 3)
+
+
+def random_bytes(rng, head, row):
+    return rng.randbytes(rng.choice([rng.randrange(5), rng.randrange(1300), byte_length(head)]))
+
+
+DAMAGES = [in_head, in_row, in_padding, one_more, with_tail, shortened, lengthened, random_row, random_bytes]
+
+
+def damaged(rng):
+    head = some_head(rng)
+    return rng.choice(DAMAGES)(rng, head, some_row(rng, head))
+
+
+# ---- The comparison
+
+
+class Program:
+    def __init__(self, path):
+        self.path, self.seconds = path, 0.0
+
+    def report(self, data):
+        start = time.perf_counter()
+        text = subprocess.run([self.path], input=data, stdout=subprocess.PIPE, check=True).stdout
+        self.seconds += time.perf_counter() - start
+        return text
+
+
+def outcome(text):
+    return text.decode().strip() if text.startswith(b"refused ") else "reports"
+
+
+def compare(programs, plans):
+    """How often each outcome came, and the number of plans on which the programs differ."""
+    outcomes, differences = Counter(), 0
+    for data in plans:
+        one, other = (program.report(data) for program in programs)
+        outcomes[outcome(other)] += 1
+        if one != other:
+            differences += 1
+            print(f"differs on the plan {data.hex()}")
+    return outcomes, differences
+
+
+def main(words):
+    if len(words) not in (2, 3):
+        sys.exit(__doc__)
+    programs = [Program(path) for path in words[:2]]
+    count = int(words[2]) if len(words) == 3 else 100
+    rng, total = random.Random(4), 0
+    for make in (accepted, damaged):
+        outcomes, differences = compare(programs, (make(rng) for _ in range(count)))
+        total += differences
+        print(f"{count} {make.__name__} plans: " + ", ".join(f"{number} {word}" for word, number in sorted(outcomes.items())))
+    for program in programs:
+        print(f"{program.path}: {program.seconds:.1f} s")
+    print(f"{total} differences")
+    return bool(total)
+
+
+if __name__ == "__main__":
+    sys.exit(main(sys.argv[1:]))
