@@ -8,6 +8,7 @@ Written from document 01 and its source documents alone, not from the engine or 
   reference.py plan N U M ROW..   the plan bytes of a head and a row (chances, weights, over) on standard output
   reference.py vectors DIR        DIR/stdin and DIR/stdout of the test program over the calls
   reference.py cases              one line for each line of that stdout: what was called
+  reference.py repeat WORD K N    N times one question on the largest plan, as that program's input, to time it
   reference.py example DIR        DIR/stdin and DIR/stdout of the reserve report: document 01's example
   reference.py reports DIR        DIR/stdin and DIR/stdout of many reserve reports, the largest included: takes minutes
 """
@@ -715,6 +716,14 @@ def main(words):
         calls = all_calls()
         Path(words[1], "stdin").write_bytes(b"".join(calls.records))
         Path(words[1], "stdout").write_text("".join(line + "\n" for line in calls.lines))
+    elif len(words) == 4 and words[0] == "repeat":
+        head, row = next(long_plans(random.Random(1)))
+        question = Question(words[1], int(words[2]))
+        calls = Calls()
+        calls.use(row)
+        for _ in range(int(words[3])):
+            calls.record(question.word, head, question.number, workspace_needed(head, question))
+        sys.stdout.buffer.write(b"".join(calls.records))
     elif len(words) == 2 and words[0] == "example":
         Path(words[1], "stdin").write_bytes(REPORT_BYTES)
         Path(words[1], "stdout").write_text(REPORT_TEXT)
