@@ -7,9 +7,9 @@ use model::Head;
 use model::Question;
 use model::limits;
 ghost use mathlib.Core.Path.{_≡_};
+ghost use Prim.Native.Nat.{_+_};
 ghost use lib.ListN.{length};
-
-const BYTES: usize = 1247;
+ghost use Rattle.model.specs.Limits.{max-months, max-sizes};
 
 const ROW: usize = limits::MONTHS + limits::SIZES + 1;
 
@@ -33,10 +33,10 @@ fn next_plan() -> bool {
         return false;
     }
     let length = (wide(size[0]) << 8) | wide(size[1]);
-    if BYTES < length {
+    let mut bytes = io::buffer();
+    if bytes.len() < length {
         return false;
     }
-    let mut bytes = bytes();
     read_plan(&mut bytes[..length]);
     true
 }
@@ -46,14 +46,8 @@ fn wide(byte: u8) -> usize {
 }
 
 // The `ensures` gives the length, which lending a part of the array needs.
-fn bytes() -> [u8; BYTES]
-    ensures { λ r. ⌜ 1247 ≡ length r ⌝ }
-{
-    [0; BYTES]
-}
-
 fn row() -> [u32; ROW]
-    ensures { λ r. ⌜ 321 ≡ length r ⌝ }
+    ensures { λ r. ⌜ max-months + max-sizes + 1 ≡ length r ⌝ }
 {
     [0; ROW]
 }

@@ -26,11 +26,11 @@ array-read-wide-2 c = search needs
 wide-requires-2 : tie.Need-wide-requires-2
 wide-requires-2 c κs = search needs
 
+buffer-requires : tie.Need-buffer-requires
+buffer-requires c κs = search needs
+
 returns-2 : tie.Need-returns-2
 returns-2 c = search needs
-
-bytes-requires : tie.Need-bytes-requires
-bytes-requires c κs = search needs
 
 array-borrow-prefix-bytes : tie.Need-array-borrow-prefix-bytes
 array-borrow-prefix-bytes c = search needs
@@ -55,8 +55,8 @@ next-plan-spec =
     wide-requires
     array-read-wide-2
     wide-requires-2
+    buffer-requires
     returns-2
-    bytes-requires
     array-borrow-prefix-bytes
     slice-aggregate-read-plan
     read-plan-requires

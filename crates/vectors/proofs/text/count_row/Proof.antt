@@ -1,6 +1,7 @@
 -- `text::count_row` is safe and ends. Assumes nothing.
 use borrow.Author.Needs.{needs}
 use Prim.Native.Nat.{_-_}
+use Rattle.model.specs.Limits.{places}
 use Rattle.vectors.proofs.text.count_row.Statement.{statement}
 use Rattle.vectors.proofs.text.count_row.Tie as tie
 
@@ -8,7 +9,7 @@ abbrev Inv-loop : tie.InvT-loop
 Inv-loop lower upper k₀ k = Unit {0}
 
 abbrev μ-loop : tie.MeasureT-loop
-μ-loop lower upper k₀ k = 61 - k
+μ-loop lower upper k₀ k = places - k
 
 loop-holds : tie.Need-loop-holds Inv-loop μ-loop
 loop-holds c = search needs
