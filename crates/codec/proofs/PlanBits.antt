@@ -10,6 +10,8 @@ use Rattle.model.specs.declared.Head.{Head}
 use Rattle.model.specs.Limits.{max-months, max-sizes}
 use Rattle.model.specs.Plan.{row-length}
 use Rattle.model.specs.Format.{bits, head-bits, plan-bits, bits-of, bit-length, byte-length, head-of, fill-of, filled-bits}
+use Rattle.model.specs.Refusal.{HeadAccepted}
+use Rattle.model.proofs.Facts.{head-facts}
 use Rattle.codec.proofs.Fields.{Bits, bits-bits, bits-flat, bits-append, bits-drop}
 use Rattle.codec.proofs.Fields.{length-bits, length-flat, field-digit, after-field, flat-digit}
 
@@ -101,9 +103,9 @@ module _ (h : Head) (row : List ℕ) where
 abbrev pub longest : ℕ
 longest = 1247
 
-pub byte-length-fits : (h : Head) → h .months ≤ max-months → h .sizes ≤ max-sizes → byte-length h ≤ longest
+pub byte-length-fits : (h : Head) → HeadAccepted h → byte-length h ≤ longest
 unfolding byte-length bit-length head-bits
-byte-length-fits h months sizes = omega arith
+byte-length-fits h accepted = omega (arith, head-facts h accepted)
 
 -- and the largest plan has that many
 pub byte-length-largest : (u : ℕ) → byte-length (record { months = max-months; opening = u; sizes = max-sizes }) ≡ longest

@@ -12,7 +12,7 @@ use Rattle.model.specs.declared.Head.{Head}
 use Rattle.model.specs.Sums.{any}
 use Rattle.model.specs.Plan.{row-length}
 use Rattle.model.specs.Format.{number, head-bits, bit-length, byte-length, head-of, row-of, fill-of}
-use Rattle.model.specs.Refusal.{first, head-checks, number-checks, plan-checks, plan-refusal, Accepted, room-check, write-refusal, read-refusal}
+use Rattle.model.specs.Refusal.{first, head-checks, number-checks, plan-checks, plan-refusal, HeadAccepted, Accepted, room-check, write-refusal, read-refusal}
 use Rattle.model.proofs.Facts.{first-append, head-numbered, number-numbered, plan-numbered, plan-first, none-fits, none-fits-append}
 use Rattle.plan.proofs.Checks.{by-numbers}
 use Rattle.codec.proofs.Fields.{Bits, after-first, length-fields}
@@ -58,7 +58,7 @@ row-is bytes = length-fields 31 _ _
 -- what is known of bytes that are read into a row of the given length
 pub record Readable (bytes : List ℕ) (room : ℕ) : Type 0 where
   pub whole-head : 3 ≤ length bytes
-  pub head-ok : first (head-checks (head-of bytes)) ≡ 0
+  pub head-ok : HeadAccepted (head-of bytes)
   pub length-is : length bytes ≡ byte-length (head-of bytes)
   pub fill-zero : any (eqb 1) (fill-of bytes) ≡ false
   pub accepted : Accepted (head-of bytes) (row-of bytes)
@@ -77,7 +77,7 @@ module _ (bytes : List ℕ) (room : ℕ) where
   row = row-of bytes
 
   -- after an accepted head the row has the right length, and its numbers decide
-  numbers-refusal : first (head-checks h) ≡ 0 → plan-refusal h row ≡ first (number-checks h row)
+  numbers-refusal : HeadAccepted h → plan-refusal h row ≡ first (number-checks h row)
   numbers-refusal head-ok = by-numbers h row head-ok (row-is bytes)
 
   pub readable : read-refusal bytes room ≡ 0 → Readable bytes room
@@ -113,10 +113,10 @@ module _ (bytes : List ℕ) (room : ℕ) where
     unfolding read-refusal first
     after-stub = rw (le-ltb _ _ stub-ok) (ap first (append-assoc (head-checks h) _ _))
 
-    pub read-head : (first (head-checks h) ≡ 0 → ⊥) → read-refusal bytes room ≡ first (head-checks h)
+    pub read-head : (HeadAccepted h → ⊥) → read-refusal bytes room ≡ first (head-checks h)
     read-head refused = after-stub ∙ first-append (head-checks h) _ (head-numbered h) ∙ rw (ne-eqb _ 0 refused)
 
-    module _ (head-ok : first (head-checks h) ≡ 0) where
+    module _ (head-ok : HeadAccepted h) where
       after-head :
           read-refusal bytes room
           ≡ cond

@@ -40,7 +40,7 @@ pub fn read(bytes: &[u8], row: &mut [u32]) -> ReadAnswer
     }
     // The checks read the numbers into a row of their own. Only now, when they have ended, is anything stored in the lent one.
     let head = reading::head_of(bytes);
-    let count = format::row_length(head);
+    let count = plan::lengths::row_length(head);
     reading::decode(bytes, &mut row[..count]);
     ReadAnswer {
         refusal: wrong,

@@ -6,7 +6,7 @@ use model::limits;
 ghost use mathlib.Core.Path.{_≡_};
 ghost use Prim.Native.Nat.{_+_, _*_, _≤_};
 ghost use lib.ListN.{length, drop};
-ghost use Rattle.model.specs.Limits.{max-months, max-sizes};
+ghost use Rattle.model.specs.Limits.{row-room};
 ghost use Rattle.model.specs.Format.{head-bits, bits-of, fields, head-of};
 ghost use Rattle.model.specs.Refusal.{plan-refusal, read-refusal};
 
@@ -27,7 +27,7 @@ pub fn head_of(bytes: &[u8]) -> Head
 
 // The numbers that follow the head, as many as the row has.
 pub fn decode(bytes: &[u8], row: &mut [u32])
-    requires { ⌜ (length (now row) ≤ max-months + max-sizes + 1) × (head-bits + 31 * length (now row) ≤ 8 * length (now bytes)) ⌝ }
+    requires { ⌜ (length (now row) ≤ row-room) × (head-bits + 31 * length (now row) ≤ 8 * length (now bytes)) ⌝ }
     ensures { λ r. ⌜ now (row .exit) ≡ fields 31 (length (now (row .entry))) (drop head-bits (bits-of (now (bytes .entry)))) ⌝ }
 {
     let mut i = 0;
@@ -39,10 +39,10 @@ pub fn decode(bytes: &[u8], row: &mut [u32])
 
 // The refusal of a head and the numbers that follow it, which are read into a row of its own.
 fn numbers_refusal(bytes: &[u8], head: Head, count: usize) -> u32
-    requires { ⌜ (count ≤ max-months + max-sizes + 1) × (head-bits + 31 * count ≤ 8 * length (now bytes)) ⌝ }
+    requires { ⌜ (count ≤ row-room) × (head-bits + 31 * count ≤ 8 * length (now bytes)) ⌝ }
     ensures { λ r. ⌜ r ≡ plan-refusal head (fields 31 count (drop head-bits (bits-of (now (bytes .entry))))) ⌝ }
 {
-    let mut row = [0u32; limits::MONTHS + limits::SIZES + 1];
+    let mut row = [0u32; limits::ROW];
     decode(bytes, &mut row[..count]);
     plan::plan_refusal(head, &row[..count])
 }
@@ -67,7 +67,7 @@ pub fn refusal(bytes: &[u8], room: usize) -> u32
     if bits::field(bytes, end, fill) != 0 {
         return 6;
     }
-    let count = format::row_length(head);
+    let count = plan::lengths::row_length(head);
     let row_refused = numbers_refusal(bytes, head, count);
     if row_refused != 0 {
         return row_refused;

@@ -1,31 +1,32 @@
 -- Laws of an answer: what is known where nothing is refused, and the answer and the workspace from what the two halves give.
 use mathlib.Core.Path.{_≡_, refl, sym, _∙_, ap}
 use mathlib.Core.Bool.{Bool, true, false, cond}
-use mathlib.Core.List.{List, _++_, append-assoc}
+use mathlib.Core.List.{List, _++_}
 use Prim.Native.Nat.{ℕ, zero, suc, _+_, _*_, _-_, _≤_, _<_}
 use native.Mathlib.Nat.{mul-assoc, mul-comm}
 use native.Mathlib.Omega.{arith}
 use lib.Dec.{ltb, eqb}
-use lib.ListN.{length, take, drop, replicate, length-drop, length-replicate, replicate-append-replicate}
-use lib.Seq.{length-take-le, take-at, drop-at, drop-drop}
+use lib.ListN.{length, take, drop, replicate}
+use lib.Seq.{length-take-le}
 use borrow.Author.Tests.{ne-eqb, ltb-false}
-use borrow.Rule.Slice.PartMut.{midOf, putMid}
 use Rattle.model.specs.declared.Head.{Head}
 use Rattle.model.specs.declared.Ask.{Ask}
 use Rattle.model.specs.declared.Question.{Question}
 use Rattle.model.specs.Scale.{S, Rounding}
 use Rattle.model.specs.Sums.{total}
 use Rattle.model.specs.Plan.{plan-of, row-length}
+use Rattle.model.specs.Levels.{row-levels}
 use Rattle.model.specs.MonthRule.{month, value, values, all-placed}
 use Rattle.model.specs.Bounds.{bound, lower, upper}
 use Rattle.model.specs.Refusal.{plan-refusal, outside, rows-needed, workspace-needed, ask-refusal}
 use Rattle.model.proofs.Facts.{Facts}
 use Rattle.engine.specs.declared.Answer.{Answer}
-use Rattle.engine.specs.Rows.{Parts, round-by}
-use Rattle.engine.specs.Shapes.{rule-with, shape-of, width-of}
+use Rattle.month_rule.specs.Rows.{Parts}
+use Rattle.month_rule.specs.Shapes.{rows-size, rule-by}
+use Rattle.month_rule.proofs.RowLaws.{parts-part}
+use Rattle.engine.specs.Questions.{shape-of}
 use Rattle.engine.specs.Answers.{answer, workspace-after}
-use Rattle.engine.proofs.RowLaws.{parts-part}
-use Rattle.engine.proofs.AskLaws.{ask-refusal-is, shape-rows, rows-few, shape-value}
+use Rattle.engine.proofs.AskLaws.{ask-refusal-is, shape-rows, shape-width, rows-few, shape-value}
 
 -- what is known of an ask that is not refused
 pub record Asked (a : Ask) (row : List ℕ) (room : ℕ) : Type 0 where
@@ -66,41 +67,21 @@ unfolding answer
 answer-given a row room low high e el eh = rw (e, el, eh)
 
 pub workspace-cleared :
-    (a : Ask) (row ws front back : List ℕ) (half : ℕ) → ask-refusal a row (length ws) ≡ 0 → 2 * half ≡ workspace-needed a → 2 * half ≤ length ws →
-    front ≡ replicate (length (take half ws)) 0 →
-    back ≡ replicate (length (midOf half (2 * half - half) (front ++ drop half ws))) 0 →
-    putMid half (2 * half - half) (front ++ drop half ws) back ≡ workspace-after a row ws
+    (a : Ask) (row ws front : List ℕ) → ask-refusal a row (length ws) ≡ 0 → workspace-needed a ≤ length ws →
+    front ≡ replicate (length (take (workspace-needed a) ws)) 0 → front ++ drop (workspace-needed a) ws ≡ workspace-after a row ws
 unfolding workspace-after
-workspace-cleared a row ws front back half e en fits ef eb =
-    let before : length (take half ws) ≡ half = length-take-le half ws (omega arith) in
-    let front-count : length front ≡ half = ap length ef ∙ length-replicate {A = ℕ} (length (take half ws)) 0 ∙ before in
-    let second : 2 * half - half ≡ half = omega arith in
-    let both : half + half ≡ 2 * half = omega arith in
-    let mid : length (take half (drop half ws)) ≡ half = length-take-le half (drop half ws) (omega (arith, length-drop half ws)) in
-    rw (
-      e,
-      ← en,
-      take-at front (drop half ws) half front-count,
-      eb,
-      drop-at front (drop half ws) half front-count,
-      second,
-      mid,
-      drop-drop half half ws,
-      ef,
-      before,
-      ← append-assoc (replicate half 0) (replicate half 0) (drop (half + half) ws),
-      replicate-append-replicate half half (_),
-      both,
-    )
+workspace-cleared a row ws front e fits ef =
+    let count : length (take (workspace-needed a) ws) ≡ workspace-needed a = length-take-le (workspace-needed a) ws fits in
+    rw (e, ef, count)
 
 -- the two halves are what is needed
-pub needed-halves : (a : Ask) (rows : ℕ) → rows ≡ rows-needed (a .question) → 2 * (rows * (a .head .opening + a .head .months + 1)) ≡ workspace-needed a
+pub needed-halves : (a : Ask) (width : ℕ) → width ≡ row-levels (a .head .opening) (a .head .months) → workspace-needed a ≡ 2 * rows-size (shape-of (a .question) width)
 unfolding workspace-needed
-needed-halves a rows e =
-    let width : ℕ = a .head .opening + a .head .months + 1 in
-    ap (λ n. 2 * (n * width)) e ∙ ap (λ n. 2 * n) (mul-comm (rows-needed (a .question)) width) ∙ sym (mul-assoc 2 width (rows-needed (a .question)))
+needed-halves a width e =
+    rw (shape-rows (a .question) width, shape-width (a .question) width, ← e)
+    (mul-assoc 2 width (rows-needed (a .question)) ∙ ap (λ n. 2 * n) (mul-comm width (rows-needed (a .question))))
 
--- what a half asks of the plan's row
+-- what the bounds ask of the plan's row
 pub chances-parts : (h : Head) (row : List ℕ) → Facts h row → Parts (take (h .months) row)
 chances-parts h row f = parts-part row 0 (h .months) (record { each = f .numbers-fit })
 
@@ -110,26 +91,21 @@ severity-fits h row f =
     let sizes : h .months + h .sizes - h .months ≡ h .sizes = omega arith in
     rw sizes (omega (arith, f .weights-add))
 
-pub width-is : (h : Head) (row : List ℕ) → Facts h row → width-of (h .opening) (take (h .months) row) ≡ h .opening + h .months + 1
-width-is h row f = omega (arith, f .row-is, length-take-le (h .months) row (omega (arith, f .row-is)))
+pub months-count : (h : Head) (row : List ℕ) → length row ≡ row-length h → length (take (h .months) row) ≡ h .months
+months-count h row e = length-take-le (h .months) row (omega arith)
 
 -- the value that a half gives, by the question
-module _ (h : Head) (row : List ℕ) (row-is : length row ≡ row-length h) (q : Question) (inside : outside q ≡ false) where
-  months-count : length (take (h .months) row) ≡ h .months
-  months-count = length-take-le (h .months) row (omega arith)
-
-  pub bound-is :
-      (bias : ℕ) (round : Rounding) → round ≡ round-by bias → (r : ℕ) →
-      r
-      ≡ values (month (round-by bias) (take (h .months + h .sizes - h .months) (drop (h .months) row)))
-      (rule-with all-placed (shape-of q (h .opening + h .months + 1))) (take (h .months) row) (shape-of q (h .opening + h .months + 1) .rows - 1)
-      (h .opening) →
-      r ≡ bound round (plan-of h row) q
-  unfolding bound value plan-of
-  bound-is bias round er r e =
-      let some-row : 0 < shape-of q (h .opening + h .months + 1) .rows = omega (arith, shape-rows q (h .opening + h .months + 1), rows-few q inside) in
-      let sizes : h .months + h .sizes - h .months ≡ h .sizes = omega arith in
-      rw er
-      (rw sizes at e
-      ∙ shape-value (round-by bias) (take (h .sizes) (drop (h .months) row)) (take (h .months) row) q (h .opening) (h .opening + h .months + 1)
-      (omega (arith, months-count)) some-row)
+pub bound-is :
+    (h : Head) (row : List ℕ) → length row ≡ row-length h → (q : Question) → outside q ≡ false →
+    (round : Rounding) (width r : ℕ) → width ≡ row-levels (h .opening) (h .months) →
+    r
+    ≡ values (month round (take (h .months + h .sizes - h .months) (drop (h .months) row))) (rule-by (shape-of q width)) all-placed (take (h .months) row)
+    (shape-of q width .rows - 1) (h .opening) →
+    r ≡ bound round (plan-of h row) q
+unfolding bound value plan-of
+bound-is h row row-is q inside round width r ew e =
+    let some-row : 0 < shape-of q width .rows = omega (arith, shape-rows q width, rows-few q inside) in
+    let sizes : h .months + h .sizes - h .months ≡ h .sizes = omega arith in
+    rw sizes at e
+    ∙ shape-value round (take (h .sizes) (drop (h .months) row)) (take (h .months) row) q (h .opening) width
+    (rw (months-count h row row-is) ew) some-row

@@ -13,15 +13,17 @@ use borrow.Author.Tests.{le-leb, lt-leb, lt-ltb, le-ltb, ltb-false}
 use Rattle.model.specs.declared.Ask.{Ask}
 use Rattle.model.specs.declared.Question.{Question}
 use Rattle.model.specs.declared.Question.the-variants.{Survive, Both, High, Low}
-use Rattle.model.specs.Limits.{max-claims, max-months, max-opening}
+use Rattle.model.specs.Limits.{max-claims, level-room, workspace-room}
+use Rattle.model.specs.Levels.{largest-level, row-levels}
 use Rattle.model.specs.Scale.{S, Rounding}
-use Rattle.model.specs.MonthRule.{Row, month, values, rule-of, claims-of, claimed-row, all-placed, one-fewer}
+use Rattle.model.specs.MonthRule.{Row, month, values, rule-of, last-of, claims-of, claimed-row, all-placed, one-fewer}
 use Rattle.model.specs.Refusal.{first, plan-refusal, outside, rows-needed, workspace-needed, ask-refusal}
-use Rattle.model.proofs.Facts.{plan-first}
-use Rattle.engine.specs.Rows.{between, after-claim-by}
-use Rattle.engine.specs.Shapes.{rule-with, shape-of}
-use Rattle.engine.proofs.ForbidLaws.{below-or-not}
-use Rattle.engine.proofs.MonthsLaws.{Agree, values-agree}
+use Rattle.model.proofs.Facts.{HeadFacts, plan-first}
+use Rattle.month_rule.specs.Rows.{between, after-claim-by}
+use Rattle.month_rule.specs.Shapes.{rule-by}
+use Rattle.month_rule.proofs.MonthLaws.{below-or-not}
+use Rattle.month_rule.proofs.MonthsLaws.{Agree, values-agree}
+use Rattle.engine.specs.Questions.{shape-of}
 
 -- the checks after those of the plan
 pub ask-refusal-is :
@@ -40,6 +42,13 @@ shape-rows (Both k) width = refl
 shape-rows (High L) width = refl
 shape-rows (Low L) width = refl
 
+pub shape-width : (q : Question) (width : ℕ) → shape-of q width .width ≡ width
+unfolding shape-of
+shape-width Survive width = refl
+shape-width (Both k) width = refl
+shape-width (High L) width = refl
+shape-width (Low L) width = refl
+
 pub rows-few : (q : Question) → outside q ≡ false → (0 < rows-needed q) × (rows-needed q ≤ max-claims + 1)
 unfolding outside rows-needed
 rows-few Survive e = omega arith
@@ -48,12 +57,10 @@ rows-few (High L) e = omega arith
 rows-few (Low L) e = omega arith
 
 -- the workspace of the largest plan and question
-pub workspace-fits :
-    (a : Ask) → a .head .months ≤ max-months → a .head .opening ≤ max-opening → outside (a .question) ≡ false →
-    workspace-needed a ≤ 2 * (max-opening + max-months + 1) * (max-claims + 1)
+pub workspace-fits : (a : Ask) → HeadFacts (a .head) → outside (a .question) ≡ false → workspace-needed a ≤ workspace-room
 unfolding workspace-needed
-workspace-fits a hm ho e =
-    let width : 2 * (a .head .opening + a .head .months + 1) ≤ 2 * (max-opening + max-months + 1) = omega arith in
+workspace-fits a h e =
+    let width : 2 * row-levels (a .head .opening) (a .head .months) ≤ 2 * level-room = omega (arith, h .span-fits) in
     mul-le-mul width (rows-few (a .question) e .1)
 
 -- the claims to place are those of the last row
@@ -69,6 +76,13 @@ one-last : (j : ℕ) → j < 1 → (s : ℕ) → S ≡ all-placed j s
 unfolding all-placed
 one-last zero l s = refl
 one-last (suc j) l s = absurd (omega arith)
+
+last-agree : (q : Question) (width j : ℕ) → j < shape-of q width .rows → (s : ℕ) → last-of q j s ≡ all-placed j s
+unfolding last-of shape-of
+last-agree Survive width j l s = one-last j l s
+last-agree (Both k) width j l s = refl
+last-agree (High L) width j l s = one-last j l s
+last-agree (Low L) width j l s = one-last j l s
 
 one-claimed :
     (j : ℕ) → j < 1 → (X X′ : ℕ → Row) (k : ℕ) → ((i : ℕ) → i < 1 → X i k ≡ X′ i k) →
@@ -106,20 +120,21 @@ low-between L top s l = rw (lt-ltb s (top + 1) (omega arith)) (and-true (leb L s
     and-true false = refl
 
 -- the rule of a question and the rule of its shape
-shape-agree : (q : Question) (top : ℕ) → Agree (rule-of q) (rule-with all-placed (shape-of q (top + 1))) (shape-of q (top + 1) .rows) top
-unfolding rule-of rule-with shape-of
-shape-agree Survive top = record { last = λ j l s m. one-last j l s; claimed = one-claimed; allowed = all-between top }
-shape-agree (Both k) top = record { last = λ j l s m. refl; claimed = counted-claimed (k + 1); allowed = all-between top }
-shape-agree (High L) top = record { last = λ j l s m. one-last j l s; claimed = one-claimed; allowed = λ s m. high-between L s }
-shape-agree (Low L) top = record { last = λ j l s m. one-last j l s; claimed = one-claimed; allowed = low-between L top }
+shape-agree : (q : Question) (top : ℕ) → Agree (rule-of q) (rule-by (shape-of q (top + 1))) (shape-of q (top + 1) .rows) top
+unfolding rule-of rule-by shape-of
+shape-agree Survive top = record { claimed = one-claimed; allowed = all-between top }
+shape-agree (Both k) top = record { claimed = counted-claimed (k + 1); allowed = all-between top }
+shape-agree (High L) top = record { claimed = one-claimed; allowed = λ s m. high-between L s }
+shape-agree (Low L) top = record { claimed = one-claimed; allowed = low-between L top }
 
 -- the value of a question, from its shape
 pub shape-value :
-    (round : Rounding) (F Ps : List ℕ) (q : Question) (u width : ℕ) → width ≡ u + length Ps + 1 → 0 < shape-of q width .rows →
-    values (month round F) (rule-with all-placed (shape-of q width)) Ps (shape-of q width .rows - 1) u
-    ≡ values (month round F) (rule-of q) Ps (claims-of q) u
+    (round : Rounding) (F Ps : List ℕ) (q : Question) (u width : ℕ) → width ≡ row-levels u (length Ps) → 0 < shape-of q width .rows →
+    values (month round F) (rule-by (shape-of q width)) all-placed Ps (shape-of q width .rows - 1) u
+    ≡ values (month round F) (rule-of q) (last-of q) Ps (claims-of q) u
 shape-value round F Ps q u width e p =
     rw (claims-last q width)
     (sym
-    (values-agree round F (rule-of q) (rule-with all-placed (shape-of q width)) (shape-of q width .rows) (u + length Ps)
-    (rw e (shape-agree q (u + length Ps))) Ps (shape-of q width .rows - 1) u (omega arith) (omega arith)))
+    (values-agree round F (rule-of q) (rule-by (shape-of q width)) (shape-of q width .rows) (largest-level u (length Ps))
+    (rw e (shape-agree q (largest-level u (length Ps)))) (last-of q) all-placed (λ j l s m. last-agree q width j l s)
+    Ps (shape-of q width .rows - 1) u (omega arith) (omega arith)))

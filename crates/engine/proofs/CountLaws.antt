@@ -1,17 +1,17 @@
 -- Laws of the count row: a row rewritten in place from the last place down, and the months in their order.
 use mathlib.Core.Path.{_≡_, refl, sym, _∙_, ap}
-use mathlib.Core.List.{List, [], _∷_, append-nil}
+use mathlib.Core.List.{List, [], _∷_, _++_, append-nil, append-assoc}
 use Prim.Native.Nat.{ℕ, zero, suc, _+_, _*_, _-_, _≤_, zero-le, _<_}
-use native.Mathlib.Nat.{zero-add, add-comm, le-refl}
+use native.Mathlib.Nat.{add-comm, le-refl}
 use native.Mathlib.Numerals.{add-one}
 use native.Mathlib.Omega.{arith}
-use lib.ListN.{length, getD, take, drop, set}
+use lib.ListN.{length, getD, take, drop, set, drop-of-length-le, List·getD-append}
 use borrow.Author.Tests.{ne-eqb}
-use lib.Seq.{drop-cons, drop-length, ext-getD}
+use lib.Seq.{take-length, take-suc, drop-cons, drop-length, set-at, length-take-le, getD-take, ext-getD}
 use Rattle.model.specs.Limits.{places}
 use Rattle.model.specs.Scale.{S, Rounding, down, up}
 use Rattle.model.specs.MonthRule.{Row}
-use Rattle.model.specs.CountRow.{one-before, count-month, no-months, counted, count-row}
+use Rattle.model.specs.CountRow.{one-before, count-month, no-months, counted, count-row, tabulate}
 use Rattle.model.specs.declared.Head.{Head}
 use Rattle.model.specs.Plan.{plan-of}
 use Rattle.model.specs.Exact.{exact-count}
@@ -20,44 +20,64 @@ use Rattle.model.specs.Refusal.{plan-refusal, Accepted}
 use Rattle.model.proofs.Month.{mixture-le}
 use Rattle.model.proofs.Theorems.{count-enclosure}
 use Rattle.engine.specs.declared.CountRow.{CountRow}
-use Rattle.engine.specs.Rows.{at, Parts, round-by, tabulate, with-row}
+use Rattle.month_rule.specs.Rows.{at, Parts, round-by}
 use Rattle.engine.specs.Counts.{CountParts, rows-after}
 use Rattle.engine.specs.declared.CountAnswer.{CountAnswer}
 use Rattle.engine.specs.Answers.{count-rows, zero-rows, count-answer}
-use Rattle.engine.proofs.MonthLaws.{round-by-le, down-by, up-by}
-use Rattle.engine.proofs.RowLaws.{length-tabulate, getD-tabulate, midway, midway-start, midway-suc, midway-end, midway-below}
+use Rattle.month_rule.proofs.MonthLaws.{round-by-le, down-by, up-by}
+use Rattle.model.proofs.Counts.{length-tabulate, getD-tabulate}
 
 -- the row after one more month
 abbrev pub count-after : ℕ → ℕ → List ℕ → Row
 count-after bias P old = count-month (round-by bias) P (at old)
 
 -- the row while the places from k on are new and the rest is old
-abbrev pub counting : List ℕ → ℕ → ℕ → ℕ → List ℕ
-counting old bias P k = midway old 0 (length old) (count-after bias P old) k
+unfoldable pub counting : List ℕ → ℕ → ℕ → ℕ → List ℕ
+counting old bias P k = take k old ++ drop k (tabulate (length old) (count-after bias P old))
 
 module _ (old : List ℕ) (bias P : ℕ) where
-  whole : 0 + length old ≤ length old
-  whole = omega arith
+  new-count : length (tabulate (length old) (count-after bias P old)) ≡ length old
+  new-count = length-tabulate (length old) (count-after bias P old)
 
   pub counting-start : counting old bias P (length old) ≡ old
-  counting-start = midway-start old 0 (length old) (count-after bias P old) whole
+  unfolding counting
+  counting-start =
+      rw (take-length old, drop-of-length-le (tabulate (length old) (count-after bias P old)) {i = length old} (omega (arith, new-count))) (append-nil old)
 
   pub counting-turn :
       (row : List ℕ) (k v : ℕ) → k < length old → row ≡ counting old bias P (k + 1) → v ≡ count-after bias P old k →
       set row k v ≡ counting old bias P k
+  unfolding counting
   counting-turn row k v l e ev =
-      rw (e, ev, add-one) (ap (λ i. set (counting old bias P (suc k)) i (count-after bias P old k)) (sym (zero-add k))
-      ∙ midway-suc old 0 (length old) (count-after bias P old) whole k l)
+      rw (
+        e,
+        ev,
+        add-one,
+        take-suc old k 0 l,
+        append-assoc (take k old) (getD old k 0 ∷ []) (drop (suc k) (tabulate (length old) (count-after bias P old))),
+        set-at
+            (take k old)
+            (getD old k 0)
+            (drop (suc k) (tabulate (length old) (count-after bias P old)))
+            (count-after bias P old k)
+            k
+            (length-take-le k old (omega arith)),
+        drop-cons (tabulate (length old) (count-after bias P old)) k 0 (omega (arith, new-count)),
+        getD-tabulate (length old) (count-after bias P old) k l,
+      )
 
   pub counting-end : counting old bias P 0 ≡ tabulate (length old) (count-after bias P old)
-  unfolding with-row
-  counting-end =
-      midway-end old 0 (length old) (count-after bias P old) whole
-      ∙ rw (zero-add, drop-length old) (append-nil (tabulate (length old) (count-after bias P old)))
+  unfolding counting
+  counting-end = refl
 
   -- the places up to k are still old
   pub counting-below : (row : List ℕ) (k i : ℕ) → k < length old → row ≡ counting old bias P (k + 1) → i ≤ k → getD row i 0 ≡ getD old i 0
-  counting-below row k i l e m = rw e (midway-below old 0 (length old) (count-after bias P old) whole (k + 1) i (omega arith) (omega arith))
+  unfolding counting
+  counting-below row k i l e m =
+      rw e
+      (List·getD-append (take (k + 1) old) (drop (k + 1) (tabulate (length old) (count-after bias P old))) 0 i
+      (omega (arith, length-take-le (k + 1) old (omega arith)))
+      ∙ getD-take (k + 1) old i 0 (omega arith))
 
   -- the value at a place
   pub place-value :
@@ -219,7 +239,7 @@ module _ (h : Head) (row : List ℕ) (accepted : Accepted h row) (rows : CountRo
   count-given = rw (are, accepted)
 
   pub count-encloses :
-      (k : ℕ) → k < places → Encloses (plan-of h row) (exact-count (plan-of h row) k) (getD (rows .lower) k 0) (getD (rows .upper) k 0)
+      (k : ℕ) → k < places → Encloses (plan-of h row) (plan-of h row .chances) (exact-count (plan-of h row) k) (getD (rows .lower) k 0) (getD (rows .upper) k 0)
   unfolding count-rows
   count-encloses k l =
       let lower : getD (rows .lower) k 0 ≡ count-lower (plan-of h row) k =

@@ -10,11 +10,10 @@ use Rattle.model.specs.declared.Ask.{Ask}
 use Rattle.engine.specs.declared.Answer.{Answer}
 use Rattle.engine.specs.declared.CountRow.{CountRow}
 use Rattle.engine.specs.declared.CountAnswer.{CountAnswer}
-use Rattle.engine.specs.Rows.{tabulate}
 use Rattle.model.specs.Limits.{places}
 use Rattle.model.specs.Scale.{down, up}
 use Rattle.model.specs.Plan.{Plan, plan-of}
-use Rattle.model.specs.CountRow.{count-row}
+use Rattle.model.specs.CountRow.{count-row, tabulate}
 use Rattle.model.specs.Bounds.{lower, upper}
 use Rattle.model.specs.Refusal.{ask-refusal, count-refusal, workspace-needed}
 

@@ -5,8 +5,8 @@ use lib.ListN.{length}
 use Rattle.model.specs.Limits.{places}
 use Rattle.engine.specs.declared.CountRow.{CountRow}
 use Rattle.model.specs.Scale.{down, up}
-use Rattle.model.specs.CountRow.{count-month}
-use Rattle.engine.specs.Rows.{at, Parts, tabulate}
+use Rattle.model.specs.CountRow.{count-month, tabulate}
+use Rattle.month_rule.specs.Rows.{at, Parts}
 
 -- both rows are whole and in parts of S
 pub record CountParts (row : CountRow) : Type 0 where

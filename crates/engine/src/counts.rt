@@ -1,16 +1,16 @@
 // The count row, month by month.
 use crate::CountRow;
-use crate::month::ROUND_DOWN;
-use crate::month::ROUND_UP;
-use crate::month::mixture;
 use model::limits;
+use month_rule::month::ROUND_DOWN;
+use month_rule::month::ROUND_UP;
+use month_rule::month::mixture;
 ghost use mathlib.Core.Path.{_≡_};
 ghost use Prim.Native.Nat.{_<_, _≤_};
 ghost use mathlib.Core.List.{[]};
 ghost use lib.ListN.{length};
 ghost use Rattle.model.specs.Scale.{S};
-ghost use Rattle.model.specs.CountRow.{count-month};
-ghost use Rattle.engine.specs.Rows.{at, Parts, round-by, tabulate};
+ghost use Rattle.model.specs.CountRow.{count-month, tabulate};
+ghost use Rattle.month_rule.specs.Rows.{at, Parts, round-by};
 ghost use Rattle.engine.specs.Counts.{CountParts, rows-after};
 ghost use Rattle.engine.specs.Answers.{count-rows, zero-rows};
 

@@ -1,13 +1,12 @@
 // The calls that the planner's programs make: the four questions and the count row.
 mod bounds;
 mod counts;
-mod month;
 mod questions;
-mod rows;
 
 use model::Ask;
 use model::Head;
 use model::limits;
+use plan::lengths;
 ghost use mathlib.Core.Path.{_≡_};
 ghost use Prim.Native.Nat.{ℕ, _<_};
 ghost use lib.ListN.{length, getD};
@@ -36,14 +35,15 @@ pub struct CountAnswer {
     pub row: CountRow,
 }
 
-// Answers one question about the plan of the ask's head and the row. The workspace needs 2 × (opening + months + 1) numbers, for both k that
-// times k + 1; whatever it holds, that part is 0 after an answer, and nothing else changes.
+// Answers one question about the plan of the ask's head and the row. The workspace needs twice the levels of a row, 2 × (opening + months + 1) numbers,
+// for both k that times k + 1; whatever it holds, that part is 0 after an answer, and nothing else changes.
 pub fn ask(ask: Ask, row: &[u32], workspace: &mut [u32]) -> Answer
     ensures answered { λ r. ⌜ r ≡ answer ask (now (row .entry)) (length (now (workspace .entry))) ⌝ }
     ensures cleared { λ _. ⌜ now (workspace .exit) ≡ workspace-after ask (now (row .entry)) (now (workspace .entry)) ⌝ }
     ensures encloses { λ r.
         ⌜ (r .refusal ≡ 0 →
-        Encloses (plan-of (ask .head) (now (row .entry))) (exact (plan-of (ask .head) (now (row .entry))) (ask .question)) (r .lower) (r .upper)) ⌝ }
+        Encloses (plan-of (ask .head) (now (row .entry))) (plan-of (ask .head) (now (row .entry)) .chances)
+        (exact (plan-of (ask .head) (now (row .entry))) (ask .question)) (r .lower) (r .upper)) ⌝ }
 {
     let refusal = questions::ask_refusal(ask, row, workspace.len());
     if refusal != 0 {
@@ -56,34 +56,20 @@ pub fn ask(ask: Ask, row: &[u32], workspace: &mut [u32]) -> Answer
     let head = ask.head;
     let question = ask.question;
     let months = head.months;
-    let opening = head.opening;
     let end = months + head.sizes;
-    let width = opening + months + 1;
-    let shape = questions::shape_of(question, width);
-    let half = shape.rows * width;
-    let needed = 2 * half;
-    let chances = &row[..months];
-    let severity = &row[months..end];
-    let lower = bounds::bound(
-        &mut workspace[..half],
+    let shape = questions::shape_of(question, lengths::row_levels(head));
+    let needed = questions::workspace_needed(ask);
+    let bounds = bounds::question_bounds(
+        &mut workspace[..needed],
         shape,
-        opening,
-        chances,
-        severity,
-        month::ROUND_DOWN,
-    );
-    let upper = bounds::bound(
-        &mut workspace[half..needed],
-        shape,
-        opening,
-        chances,
-        severity,
-        month::ROUND_UP,
+        head.opening,
+        &row[..months],
+        &row[months..end],
     );
     Answer {
         refusal: 0,
-        lower,
-        upper,
+        lower: bounds.lower,
+        upper: bounds.upper,
     }
 }
 
@@ -92,7 +78,7 @@ pub fn count_claims(head: Head, row: &[u32]) -> CountAnswer
     ensures answered { λ r. ⌜ r ≡ count-answer head (now (row .entry)) ⌝ }
     ensures encloses { λ r.
         ⌜ (r .refusal ≡ 0 → (k : ℕ) → k < places →
-        Encloses (plan-of head (now (row .entry))) (exact-count (plan-of head (now (row .entry))) k)
+        Encloses (plan-of head (now (row .entry))) (plan-of head (now (row .entry)) .chances) (exact-count (plan-of head (now (row .entry))) k)
         (getD (r .row .lower) k 0) (getD (r .row .upper) k 0)) ⌝ }
 {
     let refusal = plan::plan_refusal(head, row);

@@ -4,9 +4,10 @@ use model::Question;
 use model::limits;
 ghost use mathlib.Core.Path.{_≡_};
 ghost use mathlib.Core.Bool.{false};
-ghost use Rattle.model.specs.Refusal.{outside, ask-refusal};
-ghost use Rattle.engine.specs.Shapes.{shape-of};
-use crate::rows::Shape;
+ghost use Rattle.model.specs.Refusal.{HeadAccepted, outside, workspace-needed, ask-refusal};
+ghost use Rattle.engine.specs.Questions.{shape-of};
+use month_rule::rows::Shape;
+use plan::lengths;
 
 fn is_outside(question: Question) -> bool
     ensures { λ r. ⌜ r ≡ outside question ⌝ }
@@ -19,7 +20,7 @@ fn is_outside(question: Question) -> bool
     }
 }
 
-// The rows that a question needs, each of `width` levels.
+// The rows that a question needs, each of `width` places.
 pub fn shape_of(question: Question, width: usize) -> Shape
     requires { ⌜ outside question ≡ false ⌝ }
     ensures { λ r. ⌜ r ≡ shape-of question width ⌝ }
@@ -27,29 +28,46 @@ pub fn shape_of(question: Question, width: usize) -> Shape
     match question {
         Question::Survive => Shape {
             rows: 1,
+            width,
             counted: false,
             low: 0,
             above: width,
         },
         Question::Both(k) => Shape {
             rows: k + 1,
+            width,
             counted: true,
             low: 0,
             above: width,
         },
         Question::High(level) => Shape {
             rows: 1,
+            width,
             counted: false,
             low: 0,
             above: level + 1,
         },
         Question::Low(level) => Shape {
             rows: 1,
+            width,
             counted: false,
             low: level,
             above: width,
         },
     }
+}
+
+// The numbers of the workspace that a question needs.
+pub fn workspace_needed(ask: Ask) -> usize
+    requires { ⌜ HeadAccepted (ask .head) ⌝ }
+    requires { ⌜ outside (ask .question) ≡ false ⌝ }
+    ensures { λ r. ⌜ r ≡ workspace-needed ask ⌝ }
+{
+    let head = ask.head;
+    let question = ask.question;
+    let width = lengths::row_levels(head);
+    let shape = shape_of(question, width);
+    2 * width * shape.rows
 }
 
 // The checks of the plan, then 10 question and 11 workspace.
@@ -65,10 +83,7 @@ pub fn ask_refusal(ask: Ask, row: &[u32], room: usize) -> u32
     if is_outside(question) {
         return 10;
     }
-    let width = head.opening + head.months + 1;
-    let shape = shape_of(question, width);
-    let count = shape.rows;
-    if room < 2 * width * count {
+    if room < workspace_needed(ask) {
         return 11;
     }
     0

@@ -13,12 +13,24 @@ use Rattle.model.specs.Plan.{Plan, nth}
 use Rattle.model.specs.History.{Event, no-claim, claim, tail-claim, History, is-claim, claims}
 use Rattle.model.specs.Exact.{has-claims, exact-count}
 use Rattle.model.specs.MonthRule.{Row}
-use Rattle.model.specs.CountRow.{one-before, count-month, exact-count-month, no-months, counted, count-row}
+use Rattle.model.specs.CountRow.{one-before, count-month, exact-count-month, no-months, counted, count-row, tabulate}
 use Rattle.model.specs.Bounds.{live-months, month-gap}
 use Rattle.model.proofs.SumLaws.{sum-nth-times, pow-two-more}
 use Rattle.model.proofs.Month.{Direction, times-right, Within, mixture-le, round-gap, round-whole}
 use Rattle.model.proofs.Values.{live-months-idle, live-months-live}
 use Rattle.model.proofs.Histories.{weigh, weight-is, weigh-end, weigh-split, weigh-none, claims-weigh, claims-quiet, claims-more}
+
+-- a row in memory
+pub length-tabulate : (n : ℕ) (f : Row) → length (tabulate n f) ≡ n
+unfolding tabulate
+length-tabulate zero f = refl
+length-tabulate (suc n) f = ap suc (length-tabulate n (λ k. f (suc k)))
+
+pub getD-tabulate : (n : ℕ) (f : Row) (k : ℕ) → k < n → getD (tabulate n f) k 0 ≡ f k
+unfolding tabulate
+getD-tabulate zero f k l = absurd (omega arith)
+getD-tabulate (suc n) f zero l = refl
+getD-tabulate (suc n) f (suc k) l = getD-tabulate n (λ i. f (suc i)) k (omega arith)
 
 -- what holds of 0 and of every place holds of the place before
 before-rel : (R : ℕ → ℕ → Type 0) → R 0 0 → (X Y : Row) → ((k : ℕ) → R (X k) (Y k)) → (k : ℕ) → R (one-before X k) (one-before Y k)

@@ -9,11 +9,12 @@ use lib.ListN.{length, getD, drop, length-drop}
 use lib.Seq.{length-take-le}
 use borrow.Author.Tests.{ltb-true, ltb-false, eqb-true, eqb-false, ne-eqb, not-false, lt-ltb}
 use Rattle.model.specs.declared.Head.{Head}
-use Rattle.model.specs.Limits.{max-months, max-opening, max-sizes}
+use Rattle.model.specs.Limits.{max-months, max-opening, max-sizes, max-span}
 use Rattle.model.specs.Scale.{S}
 use Rattle.model.specs.Sums.{total, any, all}
 use Rattle.model.specs.Plan.{Plan, plan-of, row-length, horizon, sizes}
-use Rattle.model.specs.Refusal.{first, head-checks, length-check, tail-survivable, number-checks, plan-checks, plan-refusal, Accepted}
+use Rattle.model.specs.Levels.{gain, largest-level}
+use Rattle.model.specs.Refusal.{first, head-checks, length-check, tail-survivable, number-checks, plan-checks, plan-refusal, HeadAccepted, Accepted}
 
 -- The numbers of checks are not 0, so that 0 says that none of them fits; of a table this computes.
 abbrev pub numbered : List (ℕ × Bool) → Bool
@@ -88,9 +89,9 @@ none-above limit (x ∷ xs) e zero = ltb-false limit x (neither (ltb limit x) (a
 none-above limit (x ∷ xs) e (suc i) = none-above limit xs (neither (ltb limit x) (any (ltb limit) xs) e .1) i
 
 -- a tail that is not reachable ruins where there is one
-tail-fits : (p : Plan) → tail-survivable p ≡ false → 0 < p .tail → p .opening + horizon p ≤ sizes p + 1
+tail-fits : (p : Plan) → tail-survivable p ≡ false → 0 < p .tail → largest-level (p .opening) (horizon p) ≤ sizes p + 1
 unfolding tail-survivable
-tail-fits p e some = ltb-false _ _ (sym (ap (λ t. t && ltb (sizes p + 1) (p .opening + horizon p)) (lt-ltb _ _ some)) ∙ e)
+tail-fits p e some = ltb-false _ _ (sym (ap (λ t. t && ltb (sizes p + 1) (largest-level (p .opening) (horizon p))) (lt-ltb _ _ some)) ∙ e)
 
 -- what is known of a head that no check turns away
 pub record HeadFacts (h : Head) : Type 0 where
@@ -98,18 +99,22 @@ pub record HeadFacts (h : Head) : Type 0 where
   pub opening-fits : h .opening ≤ max-opening
   pub sizes-some : 0 < h .sizes
   pub sizes-fit : h .sizes ≤ max-sizes
+  pub span-fits : largest-level (h .opening) (h .months) ≤ max-span
 
-pub head-facts : (h : Head) → first (head-checks h) ≡ 0 → HeadFacts h
-unfolding head-checks
+pub head-facts : (h : Head) → HeadAccepted h → HeadFacts h
+unfolding head-checks largest-level gain
 head-facts h e =
     let horizon-ok = none-fits _ _ _ e in
     let opening-ok = none-fits _ _ _ (horizon-ok .1) in
     let sizes-ok = neither (eqb (h .sizes) 0) _ (none-fits _ _ _ (opening-ok .1) .0) in
+    let months : h .months ≤ max-months = ltb-false _ _ (horizon-ok .0) in
+    let opening : h .opening ≤ max-opening = ltb-false _ _ (opening-ok .0) in
     record {
-      months-fit = ltb-false _ _ (horizon-ok .0);
-      opening-fits = ltb-false _ _ (opening-ok .0);
+      months-fit = months;
+      opening-fits = opening;
       sizes-some = not-zero (eqb-false _ _ (sizes-ok .0));
       sizes-fit = ltb-false _ _ (sizes-ok .1);
+      span-fits = omega arith;
     }
 
 -- what is known of an accepted plan
@@ -118,13 +123,14 @@ pub record Facts (h : Head) (row : List ℕ) : Type 0 where
   pub opening-fits : h .opening ≤ max-opening
   pub sizes-some : 0 < h .sizes
   pub sizes-fit : h .sizes ≤ max-sizes
+  pub span-fits : largest-level (h .opening) (h .months) ≤ max-span
   pub row-is : length row ≡ row-length h
   pub numbers-fit : (i : ℕ) → getD row i 0 ≤ S
   pub weights-add : total (plan-of h row .severity) + plan-of h row .tail ≡ S
   pub tail-ruins :
-      0 < plan-of h row .tail → plan-of h row .opening + horizon (plan-of h row) ≤ sizes (plan-of h row) + 1
+      0 < plan-of h row .tail → largest-level (plan-of h row .opening) (horizon (plan-of h row)) ≤ sizes (plan-of h row) + 1
 
-pub accepted-head : (h : Head) (row : List ℕ) → Accepted h row → first (head-checks h) ≡ 0
+pub accepted-head : (h : Head) (row : List ℕ) → Accepted h row → HeadAccepted h
 unfolding plan-refusal plan-checks
 accepted-head h row e = none-fits-append (head-checks h) _ (head-numbered h) e .0
 
@@ -142,6 +148,7 @@ facts h row e =
       opening-fits = head .opening-fits;
       sizes-some = head .sizes-some;
       sizes-fit = head .sizes-fit;
+      span-fits = head .span-fits;
       row-is = eqb-true _ _ (not-false _ (length-ok .0));
       numbers-fit = none-above S row (numbers-ok .0);
       weights-add = eqb-true _ _ (not-false _ (weights-ok .0));

@@ -10,17 +10,18 @@ use Rattle.model.specs.declared.Question.the-variants.{Survive}
 use Rattle.model.specs.Scale.{S}
 use Rattle.model.specs.Sums.{sum, product}
 use Rattle.model.specs.Plan.{Plan, nth}
-use Rattle.model.specs.MonthRule.{Row, claim-sum, exact-month, kept, claimed-row, month-back, values, value, rule-of, claims-of}
+use Rattle.model.specs.Levels.{gain}
+use Rattle.model.specs.MonthRule.{Row, claim-sum, exact-month, kept, claimed-row, month-back, values, value, rule-of, last-of, claims-of}
 use Rattle.model.specs.FirstClaim.{first-claim-in, some-claim, first-claim, first-claim-survival}
 use Rattle.model.proofs.SumLaws.{sum-ext, product-ext, sum-cut, sum-times, pow-two-more}
 use Rattle.model.proofs.Month.{claim-sum-times}
 
 -- the claim sum as the theorem prints it: the weights above m are 0
-claim-sum-printed : (F : List ℕ) (Y : Row) (s : ℕ) → sum s (λ x. nth F x * Y (s + 1 - x)) ≡ claim-sum F Y s
+claim-sum-printed : (F : List ℕ) (Y : Row) (r : ℕ) → sum (r - 1) (λ x. nth F x * Y (r - x)) ≡ claim-sum F Y r
 unfolding claim-sum nth
-claim-sum-printed F Y s =
-    sum-cut (length F) s (λ x. nth F x * Y (s + 1 - x)) (λ i l. rw (List·getD-eq-default F 0 l) (zero-mul (Y (s + 1 - suc i))))
-    ∙ ap (λ (n : ℕ). sum n (λ x. nth F x * Y (s + 1 - x))) (min-comm (length F) s)
+claim-sum-printed F Y r =
+    sum-cut (length F) (r - 1) (λ x. nth F x * Y (r - x)) (λ i l. rw (List·getD-eq-default F 0 l) (zero-mul (Y (r - suc i))))
+    ∙ ap (λ (n : ℕ). sum n (λ x. nth F x * Y (r - x))) (min-comm (length F) (r - 1))
 
 -- the chance that the first claim comes in a later month, with the first month split off
 first-claim-later : (P : ℕ) (Ps : List ℕ) (i : ℕ) → first-claim-in (P ∷ Ps) (suc (suc i)) ≡ (S - P) * first-claim-in Ps (suc i)
@@ -47,7 +48,7 @@ claimed F Ps L u =
 -- … and the last term is `no-claim`. Both with the first month split off:
 claimed-month :
     (F : List ℕ) (P : ℕ) (Ps : List ℕ) (L : ℕ → Row) (u : ℕ) →
-    claimed F (P ∷ Ps) L u ≡ P * claim-sum F (L 1) u + (S - P) * S * claimed F Ps (λ t. L (suc t)) (u + 1)
+    claimed F (P ∷ Ps) L u ≡ P * claim-sum F (L 1) (u + 1) + (S - P) * S * claimed F Ps (λ t. L (suc t)) (u + 1)
 unfolding claimed sum
 claimed-month F P Ps L u =
     ap₂ (λ (a b : ℕ). a + b) first
@@ -56,11 +57,8 @@ claimed-month F P Ps L u =
     term : ℕ → ℕ
     term t = first-claim-in Ps t * sum (u + 1 + t - 1) (λ x. nth F x * L (suc t) (u + 1 + t - x)) * S ^ (t - 1)
 
-    back : u + 1 - 1 ≡ u
-    back = omega arith
-
-    first : first-claim-in (P ∷ Ps) 1 * sum (u + 1 - 1) (λ x. nth F x * L 1 (u + 1 - x)) * S ^ (1 - 1) ≡ P * claim-sum F (L 1) u
-    first = rw (first-claim-first P Ps, back, claim-sum-printed F (L 1) u, pow-zero S) (mul-one (P * claim-sum F (L 1) u))
+    first : first-claim-in (P ∷ Ps) 1 * sum (u + 1 - 1) (λ x. nth F x * L 1 (u + 1 - x)) * S ^ (1 - 1) ≡ P * claim-sum F (L 1) (u + 1)
+    first = rw (first-claim-first P Ps, claim-sum-printed F (L 1) (u + 1), pow-zero S) (mul-one (P * claim-sum F (L 1) (u + 1)))
 
     level : (i : ℕ) → u + suc (suc i) ≡ u + 1 + suc i
     level i = omega arith
@@ -144,10 +142,11 @@ no-claim-is (P ∷ Ps) hP =
 
 -- unrounded survival over the chances of the months to come
 survival : List ℕ → List ℕ → Row
-survival F Ps = values (exact-month F) (rule-of Survive) Ps 0
+survival F Ps = values (exact-month F) (rule-of Survive) (last-of Survive) Ps 0
 
-survival-month : (F : List ℕ) (P : ℕ) (Ps : List ℕ) (u : ℕ) → survival F (P ∷ Ps) u ≡ (S - P) * S * survival F Ps (u + 1) + P * claim-sum F (survival F Ps) u
-unfolding survival values month-back rule-of kept claimed-row exact-month
+-- the theorem is for a gain of 1
+survival-month : (F : List ℕ) (P : ℕ) (Ps : List ℕ) (u : ℕ) → survival F (P ∷ Ps) u ≡ (S - P) * S * survival F Ps (u + 1) + P * claim-sum F (survival F Ps) (u + 1)
+unfolding survival values month-back rule-of kept claimed-row exact-month gain
 survival-month F P Ps u = refl
 
 -- where the values after a first claim are survival, the theorem's right side is survival
@@ -155,7 +154,7 @@ form-is-survival :
     (F Ps : List ℕ) → ((i : ℕ) → getD Ps i 0 ≤ S) →
     (L : ℕ → Row) → ((i v : ℕ) → L (suc i) v * S ≡ survival F (drop (suc i) Ps) v) →
     (u : ℕ) → (claimed F Ps L u + no-claim Ps) * S ≡ survival F Ps u
-unfolding claimed no-claim some-claim sum survival values rule-of
+unfolding claimed no-claim some-claim sum survival values last-of
 form-is-survival F [] hP L h u = rw (pow-zero S) (one-mul S)
 form-is-survival F (P ∷ Ps) hP L h u =
     rw (
@@ -164,14 +163,14 @@ form-is-survival F (P ∷ Ps) hP L h u =
       survival-month F P Ps u,
       ← form-is-survival F Ps (λ i. hP (suc i)) (λ t. L (suc t)) (λ i v. h (suc i) v) (u + 1),
       ← fun-ext (h 0),
-      ← claim-sum-times F (L 1) S u,
+      ← claim-sum-times F (L 1) S (u + 1),
     )
     (simp (add-mul, mul-add, mul-assoc) (omega arith))
 
 first-claim-is :
     (F : List ℕ) (turns : ℕ) (Ps : List ℕ) → length Ps ≤ turns → ((i : ℕ) → getD Ps i 0 ≤ S) →
     (u : ℕ) → first-claim turns F Ps u * S ≡ survival F Ps u
-unfolding first-claim claimed no-claim survival values rule-of
+unfolding first-claim claimed no-claim survival values last-of
 first-claim-is F zero [] l hP u = one-mul S
 first-claim-is F zero (P ∷ Ps) l hP u = absurd (omega arith)
 first-claim-is F (suc turns) Ps l hP u =

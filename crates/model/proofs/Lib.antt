@@ -1,5 +1,6 @@
 -- The laws of the definitions. Theorems has what the other crates and the reader cite.
 pub mod SumLaws
+pub mod LevelLaws
 pub mod Facts
 pub mod Month
 pub mod Values

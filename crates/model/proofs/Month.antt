@@ -1,40 +1,46 @@
 -- Laws of one month over rows: the claim sum, the two roundings, and what a month keeps of its rows.
-use mathlib.Core.Path.{_≡_, refl, sym, ap, ap₂}
+use mathlib.Core.Path.{_≡_, refl, sym, _∙_, ap, ap₂}
 use mathlib.Core.List.{List, [], _∷_}
-use Prim.Native.Nat.{ℕ, zero, suc, _+_, _*_, _-_, _^_, _≤_, _<_, min}
+use Prim.Native.Nat.{ℕ, zero, suc, _+_, _*_, _-_, _^_, _≤_, zero-le, _<_, min}
 use native.Mathlib.Nat.{le-refl, add-le-add, suc-min-suc, zero-min, min-zero, mul-le-mul, mul-le-mul-left, mul-le-mul-right, mul-add, add-mul, mul-assoc, mul-zero, zero-mul, mul-comm, mul-mul-mul-comm, le-trans, sub-add-cancel, sub-zero, add-zero}
 use native.Mathlib.Omega.{arith}
 use lib.ListN.{length, getD}
 use Rattle.model.specs.Scale.{S, Rounding, down, up}
 use Rattle.model.specs.Sums.{sum, total}
 use Rattle.model.specs.Plan.{nth}
+use Rattle.model.specs.Levels.{gain}
 use Rattle.model.specs.MonthRule.{Row, claim-sum, month, exact-month}
 use Rattle.model.specs.Bounds.{month-gap, largest, MonthLimits}
 use Rattle.model.proofs.SumLaws.{sum-ext}
 
 -- the claim sum by recursion on the severity list and the level
-pub claim-sum-none : (Y : Row) (s : ℕ) → claim-sum [] Y s ≡ 0
+pub claim-sum-none : (Y : Row) (r : ℕ) → claim-sum [] Y r ≡ 0
 unfolding claim-sum sum
-claim-sum-none Y s = rw min-zero
+claim-sum-none Y r = rw min-zero
 
-pub claim-sum-ground : (F : List ℕ) (Y : Row) → claim-sum F Y 0 ≡ 0
+-- a claim leaves a level above 0
+pub claim-sum-ground : (F : List ℕ) (Y : Row) (r : ℕ) → r ≤ 1 → claim-sum F Y r ≡ 0
 unfolding claim-sum sum
-claim-sum-ground F Y = rw zero-min
+claim-sum-ground F Y r l = let none : r - 1 ≡ 0 = omega arith in rw (none, zero-min)
 
-pub claim-sum-cons : (f : ℕ) (F : List ℕ) (Y : Row) (s : ℕ) → claim-sum (f ∷ F) Y (suc s) ≡ f * Y (suc s) + claim-sum F Y s
+pub claim-sum-cons : (f : ℕ) (F : List ℕ) (Y : Row) (r : ℕ) → claim-sum (f ∷ F) Y (suc (suc r)) ≡ f * Y (suc r) + claim-sum F Y (suc r)
 unfolding claim-sum sum nth
-claim-sum-cons f F Y s =
-    rw suc-min-suc
-    (ap₂ (λ (a b : ℕ). f * Y a + b) top
-    (sum-ext (min s (length F)) (λ x. nth (f ∷ F) (suc x) * Y (suc s + 1 - suc x)) (λ x. nth F x * Y (s + 1 - x)) rest))
+claim-sum-cons f F Y r =
+    rw (less, suc-min-suc)
+    (ap₂ (λ (a b : ℕ). f * Y a + b) less
+    (ap (λ (n : ℕ). sum (min n (length F)) (λ x. nth (f ∷ F) (suc x) * Y (suc (suc r) - suc x))) (sym least)
+    ∙ sum-ext (min (suc r - 1) (length F)) (λ x. nth (f ∷ F) (suc x) * Y (suc (suc r) - suc x)) (λ x. nth F x * Y (suc r - x)) rest))
   where
-    top : suc s + 1 - 1 ≡ suc s
-    top = omega arith
+    less : suc (suc r) - 1 ≡ suc r
+    less = omega arith
 
-    lower : (i : ℕ) → suc s + 1 - suc (suc i) ≡ s + 1 - suc i
+    least : suc r - 1 ≡ r
+    least = omega arith
+
+    lower : (i : ℕ) → suc (suc r) - suc (suc i) ≡ suc r - suc i
     lower i = omega arith
 
-    rest : (i : ℕ) → i < min s (length F) → getD F i 0 * Y (suc s + 1 - suc (suc i)) ≡ getD F i 0 * Y (s + 1 - suc i)
+    rest : (i : ℕ) → i < min (suc r - 1) (length F) → getD F i 0 * Y (suc (suc r) - suc (suc i)) ≡ getD F i 0 * Y (suc r - suc i)
     rest i l = ap (λ (a : ℕ). getD F i 0 * Y a) (lower i)
 
 -- A relation between the claim sums over two rows, which may speak of the weights passed: it holds if it holds of nothing and of one term more.
@@ -45,10 +51,12 @@ pub claim-sum-rel :
     (F : List ℕ) (s : ℕ) → R (total F) (claim-sum F Y s) (claim-sum F Z s)
 unfolding total
 claim-sum-rel R Y Z none more [] s = rw (claim-sum-none Y s, claim-sum-none Z s) (none 0)
-claim-sum-rel R Y Z none more (f ∷ F) zero = rw (claim-sum-ground (f ∷ F) Y, claim-sum-ground (f ∷ F) Z) (none (f + total F))
-claim-sum-rel R Y Z none more (f ∷ F) (suc s) =
+claim-sum-rel R Y Z none more (f ∷ F) zero = rw (claim-sum-ground (f ∷ F) Y 0 zero-le, claim-sum-ground (f ∷ F) Z 0 zero-le) (none (f + total F))
+claim-sum-rel R Y Z none more (f ∷ F) (suc zero) =
+    rw (claim-sum-ground (f ∷ F) Y 1 (le-refl 1), claim-sum-ground (f ∷ F) Z 1 (le-refl 1)) (none (f + total F))
+claim-sum-rel R Y Z none more (f ∷ F) (suc (suc s)) =
     rw (claim-sum-cons f F Y s, claim-sum-cons f F Z s)
-    (more f (total F) (claim-sum F Y s) (claim-sum F Z s) (suc s) (claim-sum-rel R Y Z none more F s))
+    (more f (total F) (claim-sum F Y (suc s)) (claim-sum F Z (suc s)) (suc s) (claim-sum-rel R Y Z none more F (suc s)))
 
 -- rows that differ by at most g at each level have claim sums that differ by at most g for each part of weight
 pub claim-sum-le :
@@ -122,15 +130,15 @@ module _ {rel : ℕ → ℕ → Type 0} {round : Rounding} (d : Direction rel ro
   month-encloses F P X Y EX EY D hx hy s =
       rw (← mul-assoc (round N) S (S * D))
       (then (times-right (S * D) (rounds N))
-      (rw (add-mul ((S - P) * X (s + 1)) (P * A) (S * D), mul-mul-mul-comm (S - P) (X (s + 1)) S D, mul-assoc P A (S * D), ← mul-assoc A S D)
-      (plus (times ((S - P) * S) (hx (s + 1)))
-      (times P (then (times-right D (rounds (claim-sum F Y s))) (claim-sum-encloses F Y EY D hy s))))))
+      (rw (add-mul ((S - P) * X (s + gain)) (P * A) (S * D), mul-mul-mul-comm (S - P) (X (s + gain)) S D, mul-assoc P A (S * D), ← mul-assoc A S D)
+      (plus (times ((S - P) * S) (hx (s + gain)))
+      (times P (then (times-right D (rounds (claim-sum F Y (s + gain)))) (claim-sum-encloses F Y EY D hy (s + gain)))))))
     where
       A : ℕ
-      A = round (claim-sum F Y s)
+      A = round (claim-sum F Y (s + gain))
 
       N : ℕ
-      N = (S - P) * X (s + 1) + P * A
+      N = (S - P) * X (s + gain) + P * A
 
 -- one weight is at most all of them
 nth-le-total : (F : List ℕ) (x : ℕ) → nth F x ≤ total F
@@ -155,9 +163,9 @@ up-within x h = omega arith
 -- What a month works out at a level, where no value of its rows is above S: nothing passes S × S, and the value is at most S again.
 pub record MonthFits (round : Rounding) (F : List ℕ) (P : ℕ) (X Y : Row) (s : ℕ) : Type 0 where
   pub products : (x r : ℕ) → nth F x * Y r ≤ S * S
-  pub claims : claim-sum F Y s ≤ S * S
-  pub claimed : round (claim-sum F Y s) ≤ S
-  pub parts : (S - P) * X (s + 1) + P * round (claim-sum F Y s) ≤ S * S
+  pub claims : claim-sum F Y (s + gain) ≤ S * S
+  pub claimed : round (claim-sum F Y (s + gain)) ≤ S
+  pub parts : (S - P) * X (s + gain) + P * round (claim-sum F Y (s + gain)) ≤ S * S
   pub value : month round F P X Y s ≤ S
 
 -- a mixture of two numbers of at most B, by parts of S, is at most B parts of S
@@ -184,11 +192,11 @@ month-fits round within F hF P hP X Y hX hY s =
       value = within _ m;
     }
   where
-    c : claim-sum F Y s ≤ S * S
-    c = le-trans (claim-sum-bound F Y S hY s) (mul-le-mul-right S hF)
+    c : claim-sum F Y (s + gain) ≤ S * S
+    c = le-trans (claim-sum-bound F Y S hY (s + gain)) (mul-le-mul-right S hF)
 
-    m : (S - P) * X (s + 1) + P * round (claim-sum F Y s) ≤ S * S
-    m = mixture-le P (X (s + 1)) (round (claim-sum F Y s)) S hP (hX (s + 1)) (within _ c)
+    m : (S - P) * X (s + gain) + P * round (claim-sum F Y (s + gain)) ≤ S * S
+    m = mixture-le P (X (s + gain)) (round (claim-sum F Y (s + gain))) S hP (hX (s + gain)) (within _ c)
 
 -- with what rounding up adds
 pub limit : (x : ℕ) → x ≤ S * S → x + (S - 1) ≤ largest
@@ -223,25 +231,25 @@ month-gap-live F hF P hP X Y X′ Y′ g hX hY s =
     omega (arith, round-gap N N′ (g + 1) parts)
   where
     A : ℕ
-    A = down (claim-sum F Y s)
+    A = down (claim-sum F Y (s + gain))
 
     A′ : ℕ
-    A′ = up (claim-sum F Y′ s)
+    A′ = up (claim-sum F Y′ (s + gain))
 
     N : ℕ
-    N = (S - P) * X (s + 1) + P * A
+    N = (S - P) * X (s + gain) + P * A
 
     N′ : ℕ
-    N′ = (S - P) * X′ (s + 1) + P * A′
+    N′ = (S - P) * X′ (s + gain) + P * A′
 
     claims : A′ ≤ A + (g + 1)
-    claims = round-gap (claim-sum F Y s) (claim-sum F Y′ s) g (omega (arith, claim-sum-le F Y′ Y g hY s, mul-le-mul-right g hF))
+    claims = round-gap (claim-sum F Y (s + gain)) (claim-sum F Y′ (s + gain)) g (omega (arith, claim-sum-le F Y′ Y g hY (s + gain), mul-le-mul-right g hF))
 
     parts : N′ ≤ N + S * (g + 1)
     parts =
         omega (
           arith,
-          simp mul-add at (mul-le-mul-left (S - P) (hX (s + 1))),
+          simp mul-add at (mul-le-mul-left (S - P) (hX (s + gain))),
           simp mul-add at (mul-le-mul-left P claims),
           mixture-le P g (g + 1) (g + 1) hP (omega arith) (le-refl (g + 1)),
           mul-add P g 1,
@@ -253,7 +261,7 @@ pub month-gap-idle :
     (s : ℕ) → month up F 0 X′ Y′ s ≤ month down F 0 X Y s + g
 unfolding month
 month-gap-idle F X Y X′ Y′ g hX s =
-    simp (zero-mul, add-zero, sub-zero) (round-whole (X (s + 1)) (X′ (s + 1)) g (hX (s + 1)))
+    simp (zero-mul, add-zero, sub-zero) (round-whole (X (s + gain)) (X′ (s + gain)) g (hX (s + gain)))
 
 -- a factor common to all values of a row
 pub claim-sum-times : (F : List ℕ) (Y : Row) (k s : ℕ) → claim-sum F Y s * k ≡ claim-sum F (λ r. Y r * k) s

@@ -14,7 +14,7 @@ use Rattle.model.specs.Sums.{all, count}
 use Rattle.model.specs.Plan.{Plan}
 use Rattle.model.specs.History.{claim, History, Surplus, known, at-least, at-most, is-claim, claims}
 use Rattle.model.specs.Exact.{path-from, survives, keeps, exact}
-use Rattle.model.specs.MonthRule.{exact-month, value, whole, all-placed, one-fewer, any-level, rule-of, claims-of}
+use Rattle.model.specs.MonthRule.{exact-month, value, whole, all-placed, one-fewer, any-level, rule-of, last-of, claims-of}
 use Rattle.model.proofs.Histories.{weight-is, claims-quiet, claims-more}
 use Rattle.model.proofs.Unrounded.{holds, left, Reads, unrounded}
 
@@ -59,7 +59,7 @@ level-reads :
     (T : Surplus → Bool) (allowed : ℕ → Bool) →
     ((r : ℕ) → 0 < r → T (known (pos r)) ≡ allowed r) →
     ((u : Surplus) → at-least 1 u ≡ false → T u ≡ false) →
-    Reads (record { last = whole; after-claim = some; allowed = allowed }) T (λ k h. true)
+    Reads (record { after-claim = some; allowed = allowed }) whole T (λ k h. true)
 level-reads T allowed above ruined =
     record {
       above = above;
@@ -70,7 +70,7 @@ level-reads T allowed above ruined =
     }
 
 -- both: the surplus is tested for survival, and the claims are counted
-count-reads : (j : ℕ) → Reads (rule-of (Both j)) (at-least 1) (placed (Both j))
+count-reads : (j : ℕ) → Reads (rule-of (Both j)) all-placed (at-least 1) (placed (Both j))
 unfolding rule-of placed at-least all-placed one-fewer claims count is-claim
 count-reads j =
     record {
@@ -89,8 +89,8 @@ count-reads j =
     fewer zero h = eqb·suc-zero (claims h)
     fewer (suc k) h = eqb·suc-suc (claims h) k
 
-reads : (q : Question) → Reads (rule-of q) (test q) (placed q)
-unfolding rule-of test placed at-least at-most
+reads : (q : Question) → Reads (rule-of q) (last-of q) (test q) (placed q)
+unfolding rule-of last-of test placed at-least at-most
 reads Survive = level-reads (at-least 1) any-level (λ r h. le-leb 1 r h) (λ u e. e)
 reads (Both j) = count-reads j
 reads (High L) = level-reads (test (High L)) (λ s. leb s L) (λ r h. rw (le-leb 1 r h)) (λ u e. rw e)
@@ -101,4 +101,4 @@ pub unrounded-is-exact : (p : Plan) (q : Question) → value (exact-month (p .se
 unfolding value exact
 unrounded-is-exact p q =
     rw (weight-is, fun-ext (keeps-is q (p .opening)))
-    (sym (unrounded (rule-of q) (test q) (placed q) (reads q) (p .severity) (p .tail) (p .chances) (claims-of q) (p .opening)))
+    (sym (unrounded (rule-of q) (last-of q) (test q) (placed q) (reads q) (p .severity) (p .tail) (p .chances) (claims-of q) (p .opening)))

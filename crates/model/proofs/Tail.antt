@@ -3,14 +3,16 @@ use mathlib.Core.Path.{_≡_, refl, sym, _∙_}
 use mathlib.Core.Bool.{Bool, true, false, cond, true≢false}
 use mathlib.Core.List.{List, [], _∷_, _++_}
 use Prim.Native.Nat.{ℕ, zero, suc, _+_, _-_, _≤_, _<_}
+use native.Mathlib.Nat.{mul-one, mul-suc}
 use native.Mathlib.Omega.{arith}
 use lib.Dec.{ltb}
 use lib.IntN.{ℤ, pos, negsuc, subℕ, _+ℤ_, _-ℤ_}
 use lib.ListN.{length, getD}
 use borrow.Author.Tests.{le-leb, lt-leb, leb-true}
 use Rattle.model.specs.Sums.{all}
+use Rattle.model.specs.Levels.{gain, largest-level}
 use Rattle.model.specs.History.{Event, no-claim, claim, tail-claim, History, Surplus, known, lost, next-surplus, surplus-path, at-least, at-most}
-use Rattle.model.proofs.Unrounded.{claim-ruins, and-false}
+use Rattle.model.proofs.Unrounded.{and-false}
 
 -- a difference that is at most B
 sub-at-most : (B a b : ℕ) → a ≤ B + b → at-most B (known (subℕ a b)) ≡ true
@@ -21,10 +23,10 @@ sub-at-most B a b l = go (ltb a b) (a - b) (omega arith)
     go true z h = refl
     go false z h = le-leb z B h
 
-plus-at-most : (B : ℕ) (z : ℤ) → at-most B (known z) ≡ true → at-most (suc B) (known (z +ℤ pos 1)) ≡ true
+plus-at-most : (B c : ℕ) (z : ℤ) → at-most B (known z) ≡ true → at-most (B + c) (known (z +ℤ pos c)) ≡ true
 unfolding at-most
-plus-at-most B (pos z) h = le-leb (z + 1) (suc B) (omega (arith, leb-true z B h))
-plus-at-most B (negsuc z) h = sub-at-most (suc B) 1 (suc z) (omega arith)
+plus-at-most B c (pos z) h = le-leb (z + c) (B + c) (omega (arith, leb-true z B h))
+plus-at-most B c (negsuc z) h = sub-at-most (B + c) c (suc z) (omega arith)
 
 minus-at-most : (B x : ℕ) (z : ℤ) → at-most B (known z) ≡ true → at-most B (known (z -ℤ pos x)) ≡ true
 unfolding at-most
@@ -33,13 +35,25 @@ minus-at-most B (suc i) (pos z) h = sub-at-most B z (suc i) (omega (arith, leb-t
 minus-at-most B zero (negsuc z) h = sub-at-most B 0 (suc z) (omega arith)
 minus-at-most B (suc i) (negsuc z) h = refl
 
--- the surplus grows by at most 1 a month
-grows : (B : ℕ) (u : Surplus) (e : Event) → at-most B u ≡ true → at-most (suc B) (next-surplus u e) ≡ true
+-- the surplus grows by at most the gain a month
+grows : (B : ℕ) (u : Surplus) (e : Event) → at-most B u ≡ true → at-most (B + gain) (next-surplus u e) ≡ true
 unfolding next-surplus at-most
-grows B (known z) no-claim h = plus-at-most B z h
-grows B (known z) (claim x) h = minus-at-most (suc B) x (z +ℤ pos 1) (plus-at-most B z h)
+grows B (known z) no-claim h = plus-at-most B gain z h
+grows B (known z) (claim x) h = minus-at-most (B + gain) x (z +ℤ pos gain) (plus-at-most B gain z h)
 grows B (known z) tail-claim h = refl
 grows B lost e h = refl
+
+at-most-up : (B C : ℕ) (z : ℤ) → at-most B (known z) ≡ true → B ≤ C → at-most C (known z) ≡ true
+unfolding at-most
+at-most-up B C (pos z) h l = le-leb z C (omega (arith, leb-true z B h))
+at-most-up B C (negsuc z) h l = refl
+
+-- less what it is at most
+minus-below : (x : ℕ) (z : ℤ) → at-most x (known z) ≡ true → at-most 0 (known (z -ℤ pos x)) ≡ true
+unfolding at-most
+minus-below zero (pos z) h = le-leb (z + 0) 0 (omega (arith, leb-true z 0 h))
+minus-below (suc i) (pos z) h = sub-at-most 0 z (suc i) (omega (arith, leb-true z (suc i) h))
+minus-below x (negsuc z) h = minus-at-most 0 x (negsuc z) refl
 
 below-one : (u : Surplus) → at-most 0 u ≡ true → at-least 1 u ≡ false
 unfolding at-most at-least
@@ -47,23 +61,21 @@ below-one (known (pos z)) h = lt-leb 1 z (omega (arith, leb-true z 0 h))
 below-one (known (negsuc z)) h = refl
 below-one lost h = refl
 
--- a claim above the surplus before its month ruins
-large-claim-ruins : (B x : ℕ) (u : Surplus) → at-most B u ≡ true → B < x → at-least 1 (next-surplus u (claim x)) ≡ false
+-- a claim of at least the level at which it comes ruins
+large-claim-ruins : (B x : ℕ) (u : Surplus) → at-most B u ≡ true → B + gain ≤ x → at-least 1 (next-surplus u (claim x)) ≡ false
 unfolding next-surplus at-most
-large-claim-ruins B zero u h l = absurd (omega arith)
-large-claim-ruins B (suc i) (known (pos z)) h l = claim-ruins z i (omega (arith, leb-true z B h))
-large-claim-ruins B (suc i) (known (negsuc z)) h l =
-    below-one (known (negsuc z +ℤ pos 1 -ℤ pos (suc i)))
-    (minus-at-most 0 (suc i) (negsuc z +ℤ pos 1) (sub-at-most 0 1 (suc z) (omega arith)))
-large-claim-ruins B (suc i) lost h l = below-one lost refl
+large-claim-ruins B x (known z) h l =
+    below-one (known (z +ℤ pos gain -ℤ pos x)) (minus-below x (z +ℤ pos gain) (at-most-up (B + gain) x (z +ℤ pos gain) (plus-at-most B gain z h) l))
+large-claim-ruins B x lost h l = below-one lost refl
 
 -- in any month of any history, and in that month itself
 pub ruins-then :
-    (B x : ℕ) (u : Surplus) → at-most B u ≡ true → (before after : History) → B + length before < x →
+    (B x : ℕ) (u : Surplus) → at-most B u ≡ true → (before after : History) → largest-level B (suc (length before)) ≤ x →
     at-least 1 (getD (surplus-path u (before ++ claim x ∷ after)) (length before) (known (pos 1))) ≡ false
-unfolding surplus-path
-ruins-then B x u h [] after l = large-claim-ruins B x u h (omega arith)
-ruins-then B x u h (e ∷ before) after l = ruins-then (suc B) x (next-surplus u e) (grows B u e h) before after (omega arith)
+unfolding surplus-path largest-level
+ruins-then B x u h [] after l = large-claim-ruins B x u h (omega (arith, mul-one gain))
+ruins-then B x u h (e ∷ before) after l =
+    ruins-then (B + gain) x (next-surplus u e) (grows B u e h) before after (omega (arith, mul-suc gain (suc (length before))))
 
 -- a test that fails at one place fails of the list; the default passes it, so the place is inside
 pub all-fails : {A : Type 0} (f : A → Bool) (d : A) → f d ≡ true → (xs : List A) (i : ℕ) → f (getD xs i d) ≡ false → all f xs ≡ false

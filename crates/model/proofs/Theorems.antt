@@ -3,7 +3,7 @@ use mathlib.Core.Path.{_≡_, refl, sym, _∙_}
 use mathlib.Core.Bool.{true, false}
 use mathlib.Core.List.{List, [], _∷_, _++_}
 use Prim.Native.Nat.{ℕ, zero, suc, _+_, _*_, _-_, _^_, _≤_, _<_}
-use native.Mathlib.Nat.{le-trans, le-of-mul-le-mul-right, le-refl, eq-of-mul-eq-mul-right, one-le-pow}
+use native.Mathlib.Nat.{le-trans, le-of-mul-le-mul-right, le-refl, eq-of-mul-eq-mul-right, one-le-pow, mul-one, zero-add}
 use native.Mathlib.Omega.{arith}
 use lib.IntN.{pos}
 use lib.ListN.{length, getD, take, drop, length-append}
@@ -17,13 +17,14 @@ use Rattle.model.specs.Sums.{product, total}
 use Rattle.model.specs.Plan.{Plan, plan-of, horizon, sizes, nth}
 use Rattle.model.specs.History.{History, claim, known, at-least, at-most}
 use Rattle.model.specs.Exact.{path-from, survives, weight-of, exact, exact-count}
-use Rattle.model.specs.MonthRule.{Row, month, exact-month, kept, claimed-row, values, value, rule-of, claims-of}
+use Rattle.model.specs.MonthRule.{Row, month, exact-month, kept, claimed-row, values, value, rule-of, last-of, claims-of}
 use Rattle.model.specs.CountRow.{count-row, exact-count-month, counted, no-months}
 use Rattle.model.specs.FirstClaim.{some-claim, first-claim-survival}
-use Rattle.model.specs.Bounds.{bound, lower, upper, count-lower, count-upper, Encloses, MonthLimits, CountLimits}
+use Rattle.model.specs.Bounds.{bound, lower, upper, count-lower, count-upper, live-months, month-gap, Encloses, MonthLimits, CountLimits}
 use Rattle.model.specs.Refusal.{Accepted}
 use Rattle.model.proofs.Facts.{facts}
-use Rattle.model.proofs.Month.{downwards, upwards, Within, down-within, up-within, limit, month-limited}
+use Rattle.model.proofs.LevelLaws.{level-later}
+use Rattle.model.proofs.Month.{Direction, downwards, upwards, Within, down-within, up-within, limit, month-limited}
 use Rattle.model.proofs.Values.{values-enclose, values-fit, values-gap, last-fits, months-fit}
 use Rattle.model.proofs.Histories.{weight-is, weigh-all}
 use Rattle.model.proofs.Questions.{unrounded-is-exact}
@@ -33,7 +34,7 @@ use Rattle.model.proofs.Tail.{ruins-then, all-fails}
 
 -- the rows that month t reads, by the claims left
 abbrev pub rows-read : Rounding → Plan → Question → ℕ → ℕ → Row
-rows-read round p q t k = kept (rule-of q .allowed) (values (month round (p .severity)) (rule-of q) (drop t (p .chances)) k)
+rows-read round p q t k = kept (rule-of q .allowed) (values (month round (p .severity)) (rule-of q) (last-of q) (drop t (p .chances)) k)
 
 take-fits : (B n : ℕ) (xs : List ℕ) → ((i : ℕ) → getD xs i 0 ≤ B) → (i : ℕ) → getD (take n xs) i 0 ≤ B
 take-fits B zero xs h i = omega arith
@@ -49,8 +50,8 @@ positive : (n : ℕ) → 0 < S ^ n
 positive n = one-le-pow n S scale-positive
 
 -- the lower bound is at most the upper one
-ordered : {p : Plan} {W low high : ℕ} → Encloses p W low high → low ≤ high
-ordered {p} {W} {low} {high} e = le-of-mul-le-mul-right (le-trans (e .below) (e .above)) (positive (2 * horizon p))
+ordered : {p : Plan} {counted : List ℕ} {W low high : ℕ} → Encloses p counted W low high → low ≤ high
+ordered {p} {counted} {W} {low} {high} e = le-of-mul-le-mul-right (le-trans (e .below) (e .above)) (positive (2 * horizon p))
 
 module _ (h : Head) (row : List ℕ) (accepted : Accepted h row) where
   abbrev p : Plan
@@ -90,17 +91,31 @@ module _ (h : Head) (row : List ℕ) (accepted : Accepted h row) where
 
   -- Demand 3, of the definitions: enclosure and gap for every question and every place of the count row
   pub enclosure :
-      (q : Question) → Encloses p (exact p q) (lower p q) (upper p q)
+      (q : Question) → Encloses p (p .chances) (exact p q) (lower p q) (upper p q)
   unfolding bound value
   enclosure q =
       record {
-        below = rw (← unrounded q) (values-enclose downwards (p .severity) (rule-of q) (p .chances) chances-fit (claims-of q) (p .opening));
-        above = rw (← unrounded q) (values-enclose upwards (p .severity) (rule-of q) (p .chances) chances-fit (claims-of q) (p .opening));
-        gap = values-gap (p .severity) severity-fits (rule-of q) (p .chances) chances-fit (claims-of q) (p .opening);
+        below = rw (← unrounded q) (one-side downwards);
+        above = rw (← unrounded q) (one-side upwards);
+        gap = gap;
       }
+    where
+      one-side :
+          {rel : ℕ → ℕ → Type 0} {round : Rounding} (d : Direction rel round) →
+          rel (bound round p q * S ^ (2 * horizon p)) (value (exact-month (p .severity)) p q)
+      one-side d =
+          rw mul-one at
+          (values-enclose d (p .severity) (rule-of q) (last-of q) (last-of q) 1 (λ k s. rw mul-one (d .same _)) (p .chances) chances-fit (claims-of q)
+          (p .opening))
+
+      gap : upper p q ≤ lower p q + month-gap * live-months (p .chances)
+      gap =
+          rw zero-add at
+          (values-gap (p .severity) severity-fits (rule-of q) (last-of q) (last-of q) 0 (λ k s. omega arith) (p .chances) chances-fit (claims-of q)
+          (p .opening))
 
   pub count-enclosure :
-      (k : ℕ) → Encloses p (exact-count p k) (count-lower p k) (count-upper p k)
+      (k : ℕ) → Encloses p (p .chances) (exact-count p k) (count-lower p k) (count-upper p k)
   count-enclosure k =
       record {
         below = rw (← unrounded-count k) (count-row-encloses downwards (p .chances) k);
@@ -123,7 +138,7 @@ module _ (h : Head) (row : List ℕ) (accepted : Accepted h row) where
   unfolding at-most
   tail-claim-ruins-then some x large before after months =
       ruins-then u x (known (pos u)) (le-leb u u (le-refl u)) before after
-      (omega (arith, facts h row accepted .tail-ruins some, months, length-append before (claim x ∷ after)))
+      (omega (arith, facts h row accepted .tail-ruins some, level-later u (suc (length before)) (horizon p) (omega (arith, months, length-append before (claim x ∷ after)))))
     where
       u : ℕ
       u = p .opening
@@ -148,7 +163,7 @@ module _ (h : Head) (row : List ℕ) (accepted : Accepted h row) where
   bound-fits : (round : Rounding) → Within round → (q : Question) → bound round p q ≤ S
   unfolding bound value
   bound-fits round within q =
-      values-fit round within (p .severity) severity-fits (rule-of q) (last-fits q) (p .chances) chances-fit (claims-of q) (p .opening)
+      values-fit round within (p .severity) severity-fits (rule-of q) (last-of q) (last-fits q) (p .chances) chances-fit (claims-of q) (p .opening)
 
   pub bounds-fit : (q : Question) → (lower p q ≤ S) × (upper p q ≤ S)
   bounds-fit q = (bound-fits down down-within q, bound-fits up up-within q)
@@ -169,7 +184,7 @@ module _ (h : Head) (row : List ℕ) (accepted : Accepted h row) where
   month-within : (round : Rounding) → Within round → (q : Question) (t k s : ℕ) → MonthWithin round q t k s
   month-within round within q t k s =
       month-limited
-      (months-fit round within (p .severity) severity-fits (rule-of q) (last-fits q) (nth (p .chances) t) (chance-fits t)
+      (months-fit round within (p .severity) severity-fits (rule-of q) (last-of q) (last-fits q) (nth (p .chances) t) (chance-fits t)
       (drop t (p .chances)) (λ i. rw getD-drop (chances-fit (t + i))) k s)
 
   pub month-limits : (q : Question) (t k s : ℕ) → MonthWithin down q t k s × MonthWithin up q t k s

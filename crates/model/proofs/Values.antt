@@ -4,7 +4,7 @@ use mathlib.Core.Bool.{Bool, true, false, cond}
 use mathlib.Core.List.{List, [], _∷_}
 use mathlib.Core.Option.{Option, none, some}
 use Prim.Native.Nat.{ℕ, zero, suc, _+_, _*_, _^_, _≤_}
-use native.Mathlib.Nat.{pow-zero, mul-one, zero-mul, zero-add, le-refl}
+use native.Mathlib.Nat.{pow-zero, mul-assoc, one-mul, zero-mul, zero-add, le-refl}
 use native.Mathlib.Omega.{arith}
 use lib.Dec.{leb·suc-suc, leb·zero}
 use lib.ListN.{length, getD}
@@ -12,7 +12,7 @@ use Rattle.model.specs.declared.Question.{Question}
 use Rattle.model.specs.declared.Question.the-variants.{Survive, Both, High, Low}
 use Rattle.model.specs.Scale.{S, Rounding, down, up}
 use Rattle.model.specs.Sums.{total, count}
-use Rattle.model.specs.MonthRule.{Row, Month, Rule, month, exact-month, kept, claimed-row, month-back, values, all-placed, rule-of}
+use Rattle.model.specs.MonthRule.{Row, Month, Rule, month, exact-month, kept, claimed-row, month-back, values, all-placed, last-of}
 use Rattle.model.specs.Bounds.{live-months, month-gap}
 use Rattle.model.proofs.SumLaws.{pow-two-more}
 use Rattle.model.proofs.Month.{Direction, Within, MonthFits, month-encloses, month-fits, month-gap-live, month-gap-idle}
@@ -46,13 +46,9 @@ module _
     claimed-rel Ps X X′ h none s = nothing Ps
     claimed-rel Ps X X′ h (some k) s = h k s
 
-    -- the rule from other last rows
-    abbrev from : (ℕ → Row) → Rule
-    from rows = record { last = rows; after-claim = q .after-claim; allowed = q .allowed }
-
     pub month-back-rel :
         (P : ℕ) (Ps : List ℕ) → P ≤ S → (N N′ : ℕ → Row) → ((k s : ℕ) → R Ps (N k s) (N′ k s)) →
-        (k s : ℕ) → R (P ∷ Ps) (month-back m₁ (from last₁) P N k s) (month-back m₂ (from last₂) P N′ k s)
+        (k s : ℕ) → R (P ∷ Ps) (month-back m₁ q P N k s) (month-back m₂ q P N′ k s)
     unfolding month-back
     month-back-rel P Ps hP N N′ h k =
         month-keeps P Ps hP _ _ _ _ (rows k)
@@ -61,41 +57,43 @@ module _
         rows : (j s : ℕ) → R Ps (kept (q .allowed) (N j) s) (kept (q .allowed) (N′ j) s)
         rows j = kept-rel Ps (N j) (N′ j) (h j)
 
-    pub values-rel : (Ps : List ℕ) → ((i : ℕ) → getD Ps i 0 ≤ S) → (k s : ℕ) → R Ps (values m₁ (from last₁) Ps k s) (values m₂ (from last₂) Ps k s)
+    pub values-rel : (Ps : List ℕ) → ((i : ℕ) → getD Ps i 0 ≤ S) → (k s : ℕ) → R Ps (values m₁ q last₁ Ps k s) (values m₂ q last₂ Ps k s)
     unfolding values
     values-rel [] h k s = last k s
     values-rel (P ∷ Ps) h k s =
-        month-back-rel P Ps (h 0) (values m₁ (from last₁) Ps) (values m₂ (from last₂) Ps) (values-rel Ps (λ i. h (suc i))) k s
+        month-back-rel P Ps (h 0) (values m₁ q last₁ Ps) (values m₂ q last₂ Ps) (values-rel Ps (λ i. h (suc i))) k s
 
--- S^(2n) for the chances of n months, by recursion
-scale : List ℕ → ℕ
-scale [] = 1
-scale (P ∷ Ps) = S * (S * scale Ps)
+-- S^(2n) × D for the chances of n months, by recursion
+scale : ℕ → List ℕ → ℕ
+scale D [] = D
+scale D (P ∷ Ps) = S * (S * scale D Ps)
 
-scale-is : (Ps : List ℕ) → scale Ps ≡ S ^ (2 * length Ps)
+scale-is : (D : ℕ) (Ps : List ℕ) → scale D Ps ≡ S ^ (2 * length Ps) * D
 unfolding scale
-scale-is [] = sym (pow-zero S)
-scale-is (P ∷ Ps) = rw (scale-is Ps) (sym (pow-two-more S (length Ps)))
+scale-is D [] = rw (pow-zero S) (sym (one-mul D))
+scale-is D (P ∷ Ps) =
+    rw (scale-is D Ps, pow-two-more S (length Ps), mul-assoc S (S * S ^ (2 * length Ps)) D, mul-assoc S (S ^ (2 * length Ps)) D)
 
--- a rounded rule encloses the exact one
+-- A rounded rule encloses the exact one, from any last rows that enclose the exact last rows at a scale D.
 pub values-enclose :
-    {rel : ℕ → ℕ → Type 0} {round : Rounding} (d : Direction rel round) (F : List ℕ) (q : Rule) (Ps : List ℕ) → ((i : ℕ) → getD Ps i 0 ≤ S) →
-    (k s : ℕ) → rel (values (month round F) q Ps k s * S ^ (2 * length Ps)) (values (exact-month F) q Ps k s)
+    {rel : ℕ → ℕ → Type 0} {round : Rounding} (d : Direction rel round) (F : List ℕ) (q : Rule) (last exact-last : ℕ → Row) (D : ℕ) →
+    ((k s : ℕ) → rel (last k s * D) (exact-last k s)) → (Ps : List ℕ) → ((i : ℕ) → getD Ps i 0 ≤ S) →
+    (k s : ℕ) → rel (values (month round F) q last Ps k s * (S ^ (2 * length Ps) * D)) (values (exact-month F) q exact-last Ps k s)
 unfolding scale
-values-enclose {rel} {round} d F q Ps h k s =
-    rw (← scale-is Ps)
-    (values-rel (λ Qs a e. rel (a * scale Qs) e) (month round F) (exact-month F) q (q .last) (q .last)
+values-enclose {rel} {round} d F q last exact-last D h Ps hP k s =
+    rw (← scale-is D Ps)
+    (values-rel (λ Qs a e. rel (a * scale D Qs) e) (month round F) (exact-month F) q last exact-last
     (λ Qs. rw zero-mul (d .same 0))
-    (λ j i. rw mul-one (d .same (q .last j i)))
-    (λ P Qs hP X Y X′ Y′ hx hy. month-encloses d F P X Y X′ Y′ (scale Qs) hx hy)
-    Ps h k s)
+    h
+    (λ P Qs hP X Y X′ Y′ hx hy. month-encloses d F P X Y X′ Y′ (scale D Qs) hx hy)
+    Ps hP k s)
 
 -- no value passes S
 pub values-fit :
-    (round : Rounding) → Within round → (F : List ℕ) → total F ≤ S → (q : Rule) → ((k s : ℕ) → q .last k s ≤ S) →
-    (Ps : List ℕ) → ((i : ℕ) → getD Ps i 0 ≤ S) → (k s : ℕ) → values (month round F) q Ps k s ≤ S
-values-fit round within F hF q hl =
-    values-rel (λ Qs a b. a ≤ S) (month round F) (month round F) q (q .last) (q .last) (λ Qs. omega arith) hl
+    (round : Rounding) → Within round → (F : List ℕ) → total F ≤ S → (q : Rule) (last : ℕ → Row) → ((k s : ℕ) → last k s ≤ S) →
+    (Ps : List ℕ) → ((i : ℕ) → getD Ps i 0 ≤ S) → (k s : ℕ) → values (month round F) q last Ps k s ≤ S
+values-fit round within F hF q last hl =
+    values-rel (λ Qs a b. a ≤ S) (month round F) (month round F) q last last (λ Qs. omega arith) hl
     (λ P Qs hP X Y X′ Y′ hx hy s. month-fits round within F hF P hP X Y hx hy s .value)
 
 pub live-months-idle : (Ps : List ℕ) → live-months (0 ∷ Ps) ≡ live-months Ps
@@ -106,25 +104,26 @@ pub live-months-live : (P : ℕ) (Ps : List ℕ) → live-months (suc P ∷ Ps) 
 unfolding live-months count
 live-months-live P Ps = rw (leb·suc-suc 0 P, leb·zero P)
 
--- the two bounds are apart by at most the allowance of the months with a chance above 0
+-- The two bounds are apart by at most the gap of their last rows and the allowance of the months with a chance above 0.
 pub values-gap :
-    (F : List ℕ) → total F ≤ S → (q : Rule) (Ps : List ℕ) → ((i : ℕ) → getD Ps i 0 ≤ S) →
-    (k s : ℕ) → values (month up F) q Ps k s ≤ values (month down F) q Ps k s + month-gap * live-months Ps
-values-gap F hF q =
-    values-rel (λ Qs a b. b ≤ a + month-gap * live-months Qs) (month down F) (month up F) q (q .last) (q .last)
-    (λ Qs. omega arith) (λ k s. omega arith) step
+    (F : List ℕ) → total F ≤ S → (q : Rule) (last last′ : ℕ → Row) (g : ℕ) → ((k s : ℕ) → last′ k s ≤ last k s + g) →
+    (Ps : List ℕ) → ((i : ℕ) → getD Ps i 0 ≤ S) →
+    (k s : ℕ) → values (month up F) q last′ Ps k s ≤ values (month down F) q last Ps k s + (g + month-gap * live-months Ps)
+values-gap F hF q last last′ g hl =
+    values-rel (λ Qs a b. b ≤ a + (g + month-gap * live-months Qs)) (month down F) (month up F) q last last′
+    (λ Qs. omega arith) (λ k s. omega (arith, hl k s)) step
   where
     step :
         (P : ℕ) (Qs : List ℕ) → P ≤ S → (X Y X′ Y′ : Row) →
-        ((s : ℕ) → X′ s ≤ X s + month-gap * live-months Qs) → ((s : ℕ) → Y′ s ≤ Y s + month-gap * live-months Qs) →
-        (s : ℕ) → month up F P X′ Y′ s ≤ month down F P X Y s + month-gap * live-months (P ∷ Qs)
-    step zero Qs hP X Y X′ Y′ hx hy s = rw live-months-idle (month-gap-idle F X Y X′ Y′ (month-gap * live-months Qs) hx s)
+        ((s : ℕ) → X′ s ≤ X s + (g + month-gap * live-months Qs)) → ((s : ℕ) → Y′ s ≤ Y s + (g + month-gap * live-months Qs)) →
+        (s : ℕ) → month up F P X′ Y′ s ≤ month down F P X Y s + (g + month-gap * live-months (P ∷ Qs))
+    step zero Qs hP X Y X′ Y′ hx hy s = rw live-months-idle (month-gap-idle F X Y X′ Y′ (g + month-gap * live-months Qs) hx s)
     step (suc P) Qs hP X Y X′ Y′ hx hy s =
-        rw live-months-live (omega (arith, month-gap-live F hF (suc P) hP X Y X′ Y′ (month-gap * live-months Qs) hx hy s))
+        rw live-months-live (omega (arith, month-gap-live F hF (suc P) hP X Y X′ Y′ (g + month-gap * live-months Qs) hx hy s))
 
 -- every question's last row holds S or 0
-pub last-fits : (q : Question) (k s : ℕ) → rule-of q .last k s ≤ S
-unfolding rule-of all-placed
+pub last-fits : (q : Question) (k s : ℕ) → last-of q k s ≤ S
+unfolding last-of all-placed
 last-fits Survive k s = le-refl S
 last-fits (Both j) zero s = le-refl S
 last-fits (Both j) (suc k) s = omega arith
@@ -146,12 +145,12 @@ claimed-fits X (some k) s h = h k
 
 -- what a month of the rule works out at a level, over the rows of the months that follow it
 pub months-fit :
-    (round : Rounding) → Within round → (F : List ℕ) → total F ≤ S → (q : Rule) → ((k s : ℕ) → q .last k s ≤ S) →
+    (round : Rounding) → Within round → (F : List ℕ) → total F ≤ S → (q : Rule) (last : ℕ → Row) → ((k s : ℕ) → last k s ≤ S) →
     (P : ℕ) → P ≤ S → (Ps : List ℕ) → ((i : ℕ) → getD Ps i 0 ≤ S) → (k s : ℕ) →
-    MonthFits round F P (kept (q .allowed) (values (month round F) q Ps k))
-    (claimed-row (λ j. kept (q .allowed) (values (month round F) q Ps j)) (q .after-claim k)) s
-months-fit round within F hF q hl P hP Ps hPs k s =
-    month-fits round within F hF P hP _ _ (rows k) (λ r. claimed-fits (λ j. kept (q .allowed) (values (month round F) q Ps j)) (q .after-claim k) r (λ j. rows j r)) s
+    MonthFits round F P (kept (q .allowed) (values (month round F) q last Ps k))
+    (claimed-row (λ j. kept (q .allowed) (values (month round F) q last Ps j)) (q .after-claim k)) s
+months-fit round within F hF q last hl P hP Ps hPs k s =
+    month-fits round within F hF P hP _ _ (rows k) (λ r. claimed-fits (λ j. kept (q .allowed) (values (month round F) q last Ps j)) (q .after-claim k) r (λ j. rows j r)) s
   where
-    rows : (j r : ℕ) → kept (q .allowed) (values (month round F) q Ps j) r ≤ S
-    rows j r = kept-fits (q .allowed) (values (month round F) q Ps j) r (values-fit round within F hF q hl Ps hPs j r)
+    rows : (j r : ℕ) → kept (q .allowed) (values (month round F) q last Ps j) r ≤ S
+    rows j r = kept-fits (q .allowed) (values (month round F) q last Ps j) r (values-fit round within F hF q last hl Ps hPs j r)

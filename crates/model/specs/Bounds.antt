@@ -6,6 +6,7 @@ use Rattle.model.specs.declared.Question.{Question}
 use Rattle.model.specs.Scale.{S, Rounding, down, up}
 use Rattle.model.specs.Sums.{count}
 use Rattle.model.specs.Plan.{Plan, horizon, nth}
+use Rattle.model.specs.Levels.{gain}
 use Rattle.model.specs.MonthRule.{Row, claim-sum, month, value}
 use Rattle.model.specs.CountRow.{one-before, count-row}
 
@@ -33,13 +34,14 @@ live-months chances = count (λ P. ltb 0 P) chances
 abbrev pub month-gap : ℕ
 month-gap = 2
 
--- Demand 3 of two numbers low and high, and the weight W of the histories that keep a condition
-pub record Encloses (p : Plan) (W low high : ℕ) : Type 0 where
+-- Demand 3 of two numbers low and high, and the weight W of the histories that keep a condition; `counted` are the chances of the months that the gap
+-- rule counts: all of the plan's, for a question and for a place of the count row
+pub record Encloses (p : Plan) (counted : List ℕ) (W low high : ℕ) : Type 0 where
   -- "Enclosure: lower × S^(2n) ≤ W × S ≤ upper × S^(2n)"
   pub below : low * S ^ (2 * horizon p) ≤ W * S
   pub above : W * S ≤ high * S ^ (2 * horizon p)
   -- "Gap rule: upper ≤ lower + 2 × Z"
-  pub gap : high ≤ low + month-gap * live-months (p .chances)
+  pub gap : high ≤ low + month-gap * live-months counted
 
 -- "No product or sum here passes 2^60 + 2^30."
 unfoldable pub largest : ℕ
@@ -48,8 +50,8 @@ largest = 2 ^ 60 + 2 ^ 30
 -- … said of a month at a level: of each product, and of each sum with the S − 1 that rounding up adds to it
 pub record MonthLimits (round : Rounding) (severity : List ℕ) (P : ℕ) (quiet claimed : Row) (s : ℕ) : Type 0 where
   pub product : (x r : ℕ) → nth severity x * claimed r ≤ largest
-  pub claim-total : claim-sum severity claimed s + (S - 1) ≤ largest
-  pub month-total : (S - P) * quiet (s + 1) + P * round (claim-sum severity claimed s) + (S - 1) ≤ largest
+  pub claim-total : claim-sum severity claimed (s + gain) + (S - 1) ≤ largest
+  pub month-total : (S - P) * quiet (s + gain) + P * round (claim-sum severity claimed (s + gain)) + (S - 1) ≤ largest
 
 -- … and of a month of the count row at a place
 pub record CountLimits (P : ℕ) (row : Row) (k : ℕ) : Type 0 where

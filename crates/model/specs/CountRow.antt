@@ -30,3 +30,8 @@ counted one-month (P ∷ later) row = counted one-month later (one-month P row)
 -- the count row of a plan's chances
 unfoldable pub count-row : Rounding → List ℕ → Row
 count-row round chances = counted (count-month round) chances no-months
+
+-- a row's values at the places 0 to n − 1, as they lie in memory
+unfoldable pub tabulate : ℕ → Row → List ℕ
+tabulate zero row = []
+tabulate (suc n) row = row 0 ∷ tabulate n (λ k. row (suc k))

@@ -7,6 +7,7 @@ use lib.IntN.{ℤ, pos, negsuc, _+ℤ_, _-ℤ_}
 use Rattle.model.specs.Scale.{S}
 use Rattle.model.specs.Sums.{one-to, count}
 use Rattle.model.specs.Plan.{Plan, nth}
+use Rattle.model.specs.Levels.{gain}
 
 -- "A history gives each month no claim, one size, or over": `tail-claim` is the over claim.
 pub data Event : Type 0 where
@@ -44,8 +45,8 @@ pub data Surplus : Type 0 where
 
 -- "In month t the fund gains 1 … U_t = U_{t-1} + 1 less the claim."
 unfoldable pub next-surplus : Surplus → Event → Surplus
-next-surplus (known z) no-claim = known (z +ℤ pos 1)
-next-surplus (known z) (claim x) = known (z +ℤ pos 1 -ℤ pos x)
+next-surplus (known z) no-claim = known (z +ℤ pos gain)
+next-surplus (known z) (claim x) = known (z +ℤ pos gain -ℤ pos x)
 next-surplus (known z) tail-claim = lost
 next-surplus lost e = lost
 

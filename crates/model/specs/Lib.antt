@@ -3,6 +3,7 @@ pub mod Limits
 pub mod Scale
 pub mod Sums
 pub mod Plan
+pub mod Levels
 pub mod History
 pub mod Exact
 pub mod MonthRule

@@ -1,5 +1,6 @@
--- The limits of document 01 for the definitions; src/limits.rt has them for the code, and the proofs hold the two equal.
-use Prim.Native.Nat.{ℕ, _+_}
+-- The limits of document 01, and the rooms that follow from them, for the definitions; src/limits.rt has them for the code, and the proofs hold
+-- the two equal.
+use Prim.Native.Nat.{ℕ, _+_, _*_}
 
 -- "months n (0 to 60)"
 abbrev pub max-months : ℕ
@@ -24,3 +25,19 @@ max-level = 260
 -- "a row of 61 lower and a row of 61 upper bounds": one place for each number of claims from 0 to the longest plan's
 abbrev pub places : ℕ
 places = max-months + 1
+
+-- the largest level of any plan, u + n
+abbrev pub max-span : ℕ
+max-span = max-opening + max-months
+
+-- room for the longest row of a plan
+abbrev pub row-room : ℕ
+row-room = max-months + max-sizes + 1
+
+-- room for the levels of the longest row of values
+abbrev pub level-room : ℕ
+level-room = max-span + 1
+
+-- room for the rows of every question on every plan
+abbrev pub workspace-room : ℕ
+workspace-room = 2 * level-room * (max-claims + 1)

@@ -10,14 +10,15 @@ use Rattle.model.specs.declared.Question.the-variants.{Survive, Both, Hi
 use Rattle.model.specs.Scale.{S, Rounding}
 use Rattle.model.specs.Sums.{sum}
 use Rattle.model.specs.Plan.{Plan, nth}
+use Rattle.model.specs.Levels.{gain}
 
 -- a value at each level
 abbrev pub Row : Type 0
 Row = ℕ → ℕ
 
--- "the sum over x from 1 to the lesser of s and m of F_x × V_t(s + 1 − x)"
+-- "the sum over x from 1 to the lesser of s and m of F_x × V_t(s + 1 − x)", by the level s + 1 at which the claim comes
 unfoldable pub claim-sum : List ℕ → Row → ℕ → ℕ
-claim-sum severity next s = sum (min s (length severity)) (λ x. nth severity x * next (s + 1 - x))
+claim-sum severity next level = sum (min (level - 1) (length severity)) (λ x. nth severity x * next (level - x))
 
 -- A month takes its chance, the row read where no claim comes and the row read after a claim to the row before it.
 abbrev pub Month : Type 0
@@ -25,16 +26,15 @@ Month = ℕ → Row → Row → Row
 
 -- "A = the sum …, divided by S; V_{t-1}(s) = ((S − P_t) × V_t(s + 1) + P_t × A) divided by S"
 unfoldable pub month : Rounding → List ℕ → Month
-month round severity P quiet claimed s = round ((S - P) * quiet (s + 1) + P * round (claim-sum severity claimed s))
+month round severity P quiet claimed s = round ((S - P) * quiet (s + gain) + P * round (claim-sum severity claimed (s + gain)))
 
 -- the same "with rounding left out", multiplied by S × S so that it stays whole
 unfoldable pub exact-month : List ℕ → Month
-exact-month severity P quiet claimed s = (S - P) * S * quiet (s + 1) + P * claim-sum severity claimed s
+exact-month severity P quiet claimed s = (S - P) * S * quiet (s + gain) + P * claim-sum severity claimed (s + gain)
 
--- What a question chooses in the month rule. The rows are told apart by the number of claims left to place, which only both k looks at.
+-- What a question chooses in the month rule besides its last row. The rows are told apart by the number of claims left to place, which only both k
+-- looks at.
 pub record Rule : Type 0 where
-  -- V_n
-  pub last : ℕ → Row
   -- the claims left after one more claim, if there may be one more
   pub after-claim : ℕ → Option ℕ
   -- the levels that the question does not forbid in the months 1 to n
@@ -56,10 +56,10 @@ month-back one-month q P next k = one-month P (rows k) (claimed-row rows (q .aft
     rows : ℕ → Row
     rows j = kept (q .allowed) (next j)
 
--- V_0 by the claims left: "For t = n down to 1", each chance's month on top of the months that follow it
-unfoldable pub values : Month → Rule → List ℕ → ℕ → Row
-values one-month q [] = q .last
-values one-month q (P ∷ later) = month-back one-month q P (values one-month q later)
+-- V_0 by the claims left, from V_n: "For t = n down to 1", each chance's month on top of the months that follow it
+unfoldable pub values : Month → Rule → (ℕ → Row) → List ℕ → ℕ → Row
+values one-month q last [] = last
+values one-month q last (P ∷ later) = month-back one-month q P (values one-month q last later)
 
 -- "V_n(s) = S"
 abbrev pub whole : ℕ → Row
@@ -79,10 +79,17 @@ abbrev pub any-level : ℕ → Bool
 any-level s = true
 
 unfoldable pub rule-of : Question → Rule
-rule-of Survive = record { last = whole; after-claim = some; allowed = any-level }
-rule-of (Both k) = record { last = all-placed; after-claim = one-fewer; allowed = any-level }
-rule-of (High L) = record { last = whole; after-claim = some; allowed = λ s. leb s L }
-rule-of (Low L) = record { last = whole; after-claim = some; allowed = λ s. leb L s }
+rule-of Survive = record { after-claim = some; allowed = any-level }
+rule-of (Both k) = record { after-claim = one-fewer; allowed = any-level }
+rule-of (High L) = record { after-claim = some; allowed = λ s. leb s L }
+rule-of (Low L) = record { after-claim = some; allowed = λ s. leb L s }
+
+-- V_n of each question
+unfoldable pub last-of : Question → ℕ → Row
+last-of Survive = whole
+last-of (Both k) = all-placed
+last-of (High L) = whole
+last-of (Low L) = whole
 
 -- the claims to place at the opening
 unfoldable pub claims-of : Question → ℕ
@@ -93,4 +100,4 @@ claims-of (Low L) = 0
 
 -- "The answer is V_0(u)."
 unfoldable pub value : Month → Plan → Question → ℕ
-value one-month p q = values one-month (rule-of q) (p .chances) (claims-of q) (p .opening)
+value one-month p q = values one-month (rule-of q) (last-of q) (p .chances) (claims-of q) (p .opening)

@@ -13,6 +13,7 @@ use Rattle.model.specs.Limits.{max-months, max-opening, max-sizes, max-c
 use Rattle.model.specs.Scale.{S}
 use Rattle.model.specs.Sums.{total, any}
 use Rattle.model.specs.Plan.{Plan, plan-of, row-length, horizon, sizes}
+use Rattle.model.specs.Levels.{largest-level, row-levels}
 use Rattle.model.specs.Format.{head-of, row-of, fill-of, byte-length}
 
 -- "Checks go in the order of the numbers": the first number of the list that fits
@@ -28,13 +29,17 @@ head-checks h =
     ∷ (4, eqb (h .sizes) 0 || ltb max-sizes (h .sizes))
     ∷ []
 
+-- A head is accepted if none of its checks fits.
+abbrev pub HeadAccepted : Head → Type 0
+HeadAccepted h = first (head-checks h) ≡ 0
+
 -- 5 length, of a row
 unfoldable pub length-check : Head → List ℕ → ℕ × Bool
 length-check h row = (5, not (eqb (length row) (row-length h)))
 
 -- "over above 0 is accepted only if m + 1 ≥ u + n, also when n = 0"
 unfoldable pub tail-survivable : Plan → Bool
-tail-survivable p = ltb 0 (p .tail) && ltb (sizes p + 1) (p .opening + horizon p)
+tail-survivable p = ltb 0 (p .tail) && ltb (sizes p + 1) (largest-level (p .opening) (horizon p))
 
 -- 7 chance, 8 weights, 9 tail
 unfoldable pub number-checks : Head → List ℕ → List (ℕ × Bool)
@@ -62,7 +67,7 @@ rows-needed (High L) = 1
 rows-needed (Low L) = 1
 
 unfoldable pub workspace-needed : Ask → ℕ
-workspace-needed a = 2 * (a .head .opening + a .head .months + 1) * rows-needed (a .question)
+workspace-needed a = 2 * row-levels (a .head .opening) (a .head .months) * rows-needed (a .question)
 
 -- 11 desk, "lent room too short": the workspace of a question is document 01's desk
 abbrev pub room-check : ℕ → ℕ → ℕ × Bool

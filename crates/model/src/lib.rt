@@ -4,6 +4,9 @@ pub mod limits;
 // S: chances, weights and bounds count in parts of it.
 pub const SCALE: u32 = 1 << 30;
 
+// What a month adds to the fund.
+pub const GAIN: usize = 1;
+
 // A plan's head: months n, opening reserve u and claim sizes m.
 pub struct Head {
     pub months: usize,

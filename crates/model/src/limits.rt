@@ -1,4 +1,5 @@
-// The limits of document 01 for the code; specs/Limits.antt has them for the definitions, and the proofs hold the two equal.
+// The limits of document 01, and the rooms that follow from them, for the code; specs/Limits.antt has them for the definitions, and the proofs
+// hold the two equal.
 pub const MONTHS: usize = 60;
 
 pub const OPENING: usize = 200;
@@ -10,3 +11,15 @@ pub const CLAIMS: usize = 24;
 pub const LEVEL: usize = 260;
 
 pub const PLACES: usize = MONTHS + 1;
+
+// The largest level of any plan.
+pub const SPAN: usize = OPENING + MONTHS;
+
+// Room for the longest row of a plan.
+pub const ROW: usize = MONTHS + SIZES + 1;
+
+// Room for the levels of the longest row of values.
+pub const LEVELS: usize = SPAN + 1;
+
+// Room for the rows of every question on every plan.
+pub const WORKSPACE: usize = 2 * LEVELS * (CLAIMS + 1);

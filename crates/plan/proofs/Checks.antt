@@ -12,7 +12,8 @@ use Rattle.model.specs.declared.Head.{Head}
 use Rattle.model.specs.Scale.{S}
 use Rattle.model.specs.Sums.{total, any}
 use Rattle.model.specs.Plan.{plan-of, row-length}
-use Rattle.model.specs.Refusal.{first, head-checks, length-check, number-checks, tail-survivable, plan-checks, plan-refusal}
+use Rattle.model.specs.Levels.{largest-level}
+use Rattle.model.specs.Refusal.{first, head-checks, length-check, number-checks, tail-survivable, plan-checks, plan-refusal, HeadAccepted}
 use Rattle.model.proofs.Facts.{first-append, head-numbered, horizon-is, sizes-is}
 use Rattle.plan.proofs.Rows.{total-last}
 
@@ -26,11 +27,11 @@ module _ (h : Head) (row : List ℕ) where
       ∙ total-last (drop (h .months) row) (h .sizes) (simp length-drop (omega arith))
 
   -- the head's number, if it has one
-  pub by-head : (first (head-checks h) ≡ 0 → ⊥) → plan-refusal h row ≡ first (head-checks h)
+  pub by-head : (HeadAccepted h → ⊥) → plan-refusal h row ≡ first (head-checks h)
   unfolding plan-refusal plan-checks
   by-head refused = first-append (head-checks h) _ (head-numbered h) ∙ rw (ne-eqb _ 0 refused)
 
-  module _ (head-ok : first (head-checks h) ≡ 0) where
+  module _ (head-ok : HeadAccepted h) where
     -- after an accepted head, the row's
     by-row : plan-refusal h row ≡ first (length-check h row ∷ number-checks h row)
     unfolding plan-refusal plan-checks
@@ -58,7 +59,7 @@ module _ (h : Head) (row : List ℕ) where
           ≡ cond
           (not (eqb sum S))
           8
-          (cond (ltb 0 (getD row (h .months + h .sizes) 0) && ltb (h .sizes + 1) (h .opening + h .months)) 9 0)
+          (cond (ltb 0 (getD row (h .months + h .sizes) 0) && ltb (h .sizes + 1) (largest-level (h .opening) (h .months))) 9 0)
       unfolding first number-checks tail-survivable plan-of
       by-weights within sum sum-is =
           by-numbers ∙ rw (within, horizon-is h row row-is, sizes-is h row row-is, weights-are row-is, sum-is)

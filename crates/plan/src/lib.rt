@@ -1,4 +1,8 @@
 // The checks of a plan in memory, in the order of document 01's table: one function for asking, counting, reading and writing.
+pub mod lengths;
+
+use crate::lengths::largest_level;
+use crate::lengths::row_length;
 use model::Head;
 use model::SCALE;
 use model::limits;
@@ -68,9 +72,8 @@ pub fn plan_refusal(head: Head, row: &[u32]) -> u32
         return refused;
     }
     let months = head.months;
-    let opening = head.opening;
     let sizes = head.sizes;
-    if row.len() != months + sizes + 1 {
+    if row.len() != row_length(head) {
         return 5;
     }
     if some_above(row, SCALE) {
@@ -80,7 +83,7 @@ pub fn plan_refusal(head: Head, row: &[u32]) -> u32
         return 8;
     }
     if 0 < row[months + sizes] {
-        if sizes + 1 < opening + months {
+        if sizes + 1 < largest_level(head) {
             return 9;
         }
     }

@@ -9,18 +9,14 @@ use borrow.Author.Tests.{ltb-true, ltb-false}
 use lib.Dec.{ltb}
 use lib.ListN.{length, take}
 use lib.Seq.{take-all, length-take-le}
-use Rattle.model.specs.declared.Head.{Head}
-use Rattle.model.specs.Format.{bits, bits-of, byte-length, head-of}
+use Rattle.model.specs.Limits.{row-room}
+use Rattle.model.specs.Format.{bits, bits-of, head-of}
 use Rattle.model.specs.Refusal.{first, head-checks, read-refusal}
-use Rattle.model.proofs.Facts.{head-facts}
 use Rattle.codec.proofs.PlanBits.{longest, byte-length-fits}
 use Rattle.codec.proofs.Refusals.{read-head, read-length}
 use Rattle.report.specs.Text.{line}
-use Rattle.report.specs.Report.{row-room, refused-word, report-of}
+use Rattle.report.specs.Report.{refused-word, report-of}
 use Rattle.report.proofs.Laws.{report-refused}
-
-plan-short : (h : Head) → first (head-checks h) ≡ 0 → byte-length h ≤ longest
-plan-short h ok = byte-length-fits h (head-facts h ok .months-fit) (head-facts h ok .sizes-fit)
 
 -- the refusal of a head, or 5
 or-length : ℕ → ℕ
@@ -32,7 +28,7 @@ unfolding or-length
 long-refusal bytes long = go (first (head-checks (head-of bytes))) refl
   where
     go : (n : ℕ) → first (head-checks (head-of bytes)) ≡ n → read-refusal bytes row-room ≡ or-length n
-    go zero ok = read-length bytes row-room (omega arith) ok (λ l. omega (arith, plan-short (head-of bytes) ok))
+    go zero ok = read-length bytes row-room (omega arith) ok (λ l. omega (arith, byte-length-fits (head-of bytes) ok))
     go (suc n) refused = read-head bytes row-room (omega arith) (λ z. omega (arith, z, refused)) ∙ refused
 
 not-none : (n : ℕ) → or-length n ≡ 0 → ⊥

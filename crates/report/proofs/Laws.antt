@@ -1,10 +1,10 @@
--- Laws of the report's lines: none is longer than the room for one. Assumes nothing.
-use Prim.Native.Nat.{ℕ, _+_, _*_, _<_, _≤_, min}
+-- Laws of the report's lines: none is longer than the room for one, and a question has at most so many. Assumes nothing.
+use Prim.Native.Nat.{ℕ, _+_, _*_, _<_, _≤_}
 use mathlib.Core.Path.{_≡_, refl, _∙_}
 use mathlib.Core.Bool.{false}
 use mathlib.Core.List.{List, [], _∷_}
 use native.Mathlib.Omega.{arith}
-use native.Mathlib.Nat.{min-le-right}
+use native.Mathlib.Nat.{min-le-right, mul-le-mul-right}
 use lib.ListN.{length, take, length-append}
 use lib.Seq.{take-at}
 use borrow.Author.Tests.{le-ltb, ne-eqb}
@@ -12,21 +12,24 @@ use Rattle.model.specs.declared.Head.{Head}
 use Rattle.model.specs.declared.Ask.{Ask}
 use Rattle.model.specs.declared.Question.{Question}
 use Rattle.model.specs.declared.Question.the-variants.{Survive, Both, High, Low}
-use Rattle.model.specs.Limits.{max-months, max-opening, max-claims, max-level, places}
+use Rattle.model.specs.Limits.{max-claims, max-level, places, row-room, workspace-room}
+use Rattle.model.specs.Levels.{gain}
 use Rattle.model.specs.Plan.{Plan, plan-of, row-length}
 use Rattle.model.specs.Format.{head-of, row-of}
 use Rattle.model.specs.Bounds.{lower, upper}
 use Rattle.model.specs.Refusal.{outside, workspace-needed, ask-refusal, read-refusal, Accepted}
-use Rattle.model.proofs.Facts.{facts}
+use Rattle.model.proofs.Facts.{HeadFacts, head-facts, accepted-head}
+use Rattle.model.proofs.Counts.{length-tabulate, getD-tabulate}
 use Rattle.codec.specs.Answers.{row-after}
 use Rattle.codec.proofs.Answered.{reads-row}
 use Rattle.codec.proofs.Refusals.{row-is}
 use Rattle.engine.specs.Answers.{answer, count-answer, count-rows}
-use Rattle.engine.proofs.RowLaws.{length-tabulate, getD-tabulate}
 use Rattle.engine.proofs.AskLaws.{workspace-fits, ask-refusal-is}
 use Rattle.report.specs.Text.{space, line, joined, Appended}
 use Rattle.report.proofs.TextLaws.{entry-at-most, line-at-most, joined-at-most, joined-same}
-use Rattle.report.specs.Report.{refused-word, row-room, plan-report, report-of, months-word, opening-word, sizes-word, head-line, head-room, word-of, claims-word, bounds-line, question-line, question-at, question-lines, claims-line, claims-at, claims-line-of, claims-lines, both-lines, high-lines, line-room, both-most, high-most, CountsOf, workspace-room}
+use Rattle.report.specs.Report.{refused-word, plan-report, report-of, months-word, opening-word, sizes-word, head-line, head-room, word-of, numbered}
+use Rattle.report.specs.Report.{claims-word, bounds-line, question-line, question-at, question-lines, span-of, group-lines, most-lines}
+use Rattle.report.specs.Report.{claims-line, claims-at, claims-line-of, claims-lines, line-room, CountsOf}
 
 bounds-short : (q : Question) (low high : ℕ) → length (bounds-line q low high) ≤ line-room
 bounds-short Survive low high = omega (arith, line-at-most (word-of Survive) (low ∷ high ∷ []))
@@ -41,37 +44,35 @@ question-short p q = bounds-short q _ _
 pub claims-short : (k low high : ℕ) → length (claims-line k low high) ≤ line-room
 claims-short k low high = omega (arith, line-at-most claims-word (k ∷ low ∷ high ∷ []))
 
--- where a question's lines and those of the count row end
-questions-end :
-    (p : Plan) (q : Question) (first count : ℕ) {b b′ : List ℕ} {at end : ℕ}
-    → Appended b at (question-lines p q first count) b′ end → end ≤ at + count * line-room
-unfolding question-lines
-questions-end p q first count e = omega (arith, e .ends, joined-at-most (question-at p q first) line-room (λ i. question-short _ _) count)
-
 -- the lines of rows that hold the count row are its lines
 pub claims-are : {p : Plan} {lowers uppers : List ℕ} (n : ℕ) → n < places → CountsOf p lowers uppers → joined (n + 1) (claims-at lowers uppers) ≡ claims-lines p n
 unfolding claims-lines
 claims-are n h counts =
     joined-same (n + 1) (λ k l. rw (counts .lowers-are k (omega arith), counts .uppers-are k (omega arith)))
 
--- a number within the limits is not outside
-pub both-within : (k : ℕ) → k ≤ max-claims → outside (Both k) ≡ false
-unfolding outside
-both-within k l = le-ltb max-claims k l
+-- the numbers of a question's lines start at 0 or 1, are within the limits, and are at most so many
+pub span-starts : (q : Question) (h : Head) → span-of q h .first ≤ 1
+unfolding span-of
+span-starts Survive h = omega arith
+span-starts (Both k) h = omega arith
+span-starts (High L) h = omega arith
+span-starts (Low L) h = omega arith
 
-pub high-within : (L : ℕ) → L ≤ max-level → outside (High L) ≡ false
-unfolding outside
-high-within L l = le-ltb max-level L l
+pub span-within : (q : Question) (h : Head) → HeadFacts h → (i : ℕ) → i < span-of q h .count → outside (numbered q (span-of q h .first + i)) ≡ false
+unfolding outside span-of gain
+span-within Survive h known i l = refl
+span-within (Both k) h known i l = le-ltb max-claims (0 + i) (omega (arith, min-le-right (h .months) max-claims))
+span-within (High L) h known i l = le-ltb max-level (1 + i) (omega (arith, known .span-fits))
+span-within (Low L) h known i l = le-ltb max-level (1 + i) (omega (arith, known .opening-fits))
 
-pub low-within : (L : ℕ) → L ≤ max-level → outside (Low L) ≡ false
-unfolding outside
-low-within L l = le-ltb max-level L l
+pub span-most : (q : Question) (h : Head) → HeadFacts h → span-of q h .count ≤ most-lines q
+unfolding span-of most-lines gain
+span-most Survive h known = omega arith
+span-most (Both k) h known = omega (arith, min-le-right (h .months) max-claims)
+span-most (High L) h known = omega (arith, known .span-fits)
+span-most (Low L) h known = omega (arith, known .opening-fits)
 
-pub survive-within : outside Survive ≡ false
-unfolding outside
-survive-within = refl
-
--- where the head line, a question's line and the lines of the count row end
+-- where the head line, the lines of the count row and those of a question end
 pub head-ends : (h : Head) {b b′ : List ℕ} {at end : ℕ} → Appended b at (head-line h) b′ end → end ≤ at + head-room
 unfolding head-line
 head-ends h e =
@@ -83,12 +84,21 @@ head-ends h e =
       line-at-most (space ∷ sizes-word) (h .sizes ∷ []),
     )
 
-pub question-ends : (p : Plan) (q : Question) {b b′ : List ℕ} {at end : ℕ} → Appended b at (question-line p q) b′ end → end ≤ at + line-room
-question-ends p q e = omega (arith, e .ends, question-short p q)
-
 pub claims-end : (p : Plan) (n : ℕ) {b b′ : List ℕ} {at end : ℕ} → Appended b at (claims-lines p n) b′ end → end ≤ at + (n + 1) * line-room
 unfolding claims-lines
 claims-end p n e = omega (arith, e .ends, joined-at-most (claims-line-of p) line-room (λ k. claims-short k _ _) (n + 1))
+
+pub group-ends :
+    (p : Plan) (h : Head) (q : Question) {b b′ : List ℕ} {at end : ℕ}
+    → HeadFacts h → Appended b at (group-lines p h q) b′ end → end ≤ at + most-lines q * line-room
+unfolding question-lines
+group-ends p h q known e =
+    omega (
+      arith,
+      e .ends,
+      joined-at-most (question-at p q (span-of q h .first)) line-room (λ i. question-short _ _) (span-of q h .count),
+      mul-le-mul-right line-room (span-most q h known),
+    )
 
 -- What asking answers on an accepted plan
 pub asked :
@@ -99,8 +109,7 @@ pub asked :
     → answer a row room ≡ record { refusal = 0; lower = lower (plan-of (a .head) row) (a .question); upper = upper (plan-of (a .head) row) (a .question) }
 unfolding answer
 asked a row room accepted within enough =
-    let plan = facts (a .head) row accepted in
-    let needed : workspace-needed a ≤ room = omega (arith, workspace-fits a (plan .months-fit) (plan .opening-fits) within) in
+    let needed : workspace-needed a ≤ room = omega (arith, workspace-fits a (head-facts (a .head) (accepted-head (a .head) row accepted)) within) in
     let none : ask-refusal a row room ≡ 0 = ask-refusal-is a row room ∙ (rw (accepted, within, le-ltb room _ needed)) in
     rw none
 
@@ -129,11 +138,3 @@ report-refused bytes refused = rw (ne-eqb _ 0 refused)
 pub row-read :
     (bytes row : List ℕ) → read-refusal bytes (length row) ≡ 0 → take (row-length (head-of bytes)) (row-after bytes row) ≡ row-of bytes
 row-read bytes row none = rw (reads-row bytes row none) (take-at (row-of bytes) _ _ (row-is bytes))
-
--- where the groups of lines end
-module _ (p : Plan) (h : Head) {b b′ : List ℕ} {at end : ℕ} where
-  pub both-end : Appended b at (both-lines p h) b′ end → end ≤ at + both-most * line-room
-  both-end e = omega (arith, min-le-right (h .months) max-claims, questions-end p (Both 0) 0 (min (h .months) max-claims + 1) e)
-
-  pub high-end : h .opening ≤ max-opening → h .months ≤ max-months → Appended b at (high-lines p h) b′ end → end ≤ at + high-most * line-room
-  high-end u n e = omega (arith, questions-end p (High 0) 1 (h .opening + h .months) e)

@@ -8,11 +8,13 @@ use lib.ListN.{length, getD}
 use Rattle.model.specs.declared.Head.{Head}
 use Rattle.model.specs.declared.Question.{Question}
 use Rattle.model.specs.declared.Question.the-variants.{Survive, Both, High, Low}
-use Rattle.model.specs.Limits.{max-months, max-opening, max-sizes, max-claims, places}
+use Rattle.model.specs.Limits.{max-months, max-opening, max-claims, max-span, places, row-room}
+use Rattle.model.specs.Levels.{gain, largest-level}
 use Rattle.model.specs.Plan.{Plan, plan-of}
 use Rattle.model.specs.Format.{head-of, row-of}
 use Rattle.model.specs.Bounds.{lower, upper, count-lower, count-upper}
 use Rattle.model.specs.Refusal.{read-refusal}
+use Rattle.report.specs.declared.groups.Span.{Span}
 use Rattle.report.specs.Text.{space, entry, line, joined}
 
 -- "refused", "months", "opening", "sizes", "claims"
@@ -87,22 +89,26 @@ claims-line-of p k = claims-line k (count-lower p k) (count-upper p k)
 unfoldable pub claims-lines : Plan → ℕ → List ℕ
 claims-lines p n = joined (n + 1) (claims-line-of p)
 
--- "both 0 to the lesser of n and 24, high 1 to u + n, low 1 to u + 1"
-abbrev pub both-lines : Plan → Head → List ℕ
-both-lines p h = question-lines p (Both 0) 0 (min (h .months) max-claims + 1)
+-- "both 0 to the lesser of n and 24, high 1 to u + n, low 1 to u + 1"; survive has one line, with no number
+unfoldable pub span-of : Question → Head → Span
+span-of Survive h = record { first = 0; count = 1 }
+span-of (Both k) h = record { first = 0; count = min (h .months) max-claims + 1 }
+span-of (High L) h = record { first = 1; count = largest-level (h .opening) (h .months) }
+span-of (Low L) h = record { first = 1; count = h .opening + gain }
 
-abbrev pub high-lines : Plan → Head → List ℕ
-high-lines p h = question-lines p (High 0) 1 (h .opening + h .months)
-
-abbrev pub low-lines : Plan → Head → List ℕ
-low-lines p h = question-lines p (Low 0) 1 (h .opening + 1)
-
-unfoldable pub numbered-lines : Plan → Head → List ℕ
-numbered-lines p h = both-lines p h ++ high-lines p h ++ low-lines p h
+-- all lines of a question
+abbrev pub group-lines : Plan → Head → Question → List ℕ
+group-lines p h q = question-lines p q (span-of q h .first) (span-of q h .count)
 
 -- the report of an accepted plan
 unfoldable pub plan-report : Head → List ℕ → List ℕ
-plan-report h row = head-line h ++ question-line p Survive ++ claims-lines p (h .months) ++ numbered-lines p h
+plan-report h row =
+    head-line h
+    ++ group-lines p h Survive
+    ++ claims-lines p (h .months)
+    ++ group-lines p h (Both 0)
+    ++ group-lines p h (High 0)
+    ++ group-lines p h (Low 0)
   where
     p : Plan
     p = plan-of h row
@@ -114,10 +120,6 @@ pub record CountsOf (p : Plan) (lowers uppers : List ℕ) : Type 0 where
   pub lowers-are : (k : ℕ) → k < places → getD lowers k 0 ≡ count-lower p k
   pub uppers-are : (k : ℕ) → k < places → getD uppers k 0 ≡ count-upper p k
 
--- the workspace that suffices for every question on every plan
-abbrev pub workspace-room : ℕ
-workspace-room = 2 * (max-opening + max-months + 1) * (max-claims + 1)
-
 -- room for a head line, and for any other line: its word, three numbers of at most 20 digits, spaces and the newline
 abbrev pub head-room : ℕ
 head-room = 84
@@ -125,25 +127,16 @@ head-room = 84
 abbrev pub line-room : ℕ
 line-room = 71
 
--- the most lines of both, of high and of low, and room for the longest report
-abbrev pub both-most : ℕ
-both-most = max-claims + 1
-
-abbrev pub high-most : ℕ
-high-most = max-opening + max-months
-
-abbrev pub low-most : ℕ
-low-most = max-opening + 1
-
-abbrev pub numbered-most : ℕ
-numbered-most = both-most + high-most + low-most
+-- the most lines of a question, and room for the longest report
+unfoldable pub most-lines : Question → ℕ
+most-lines Survive = 1
+most-lines (Both k) = max-claims + 1
+most-lines (High L) = max-span
+most-lines (Low L) = max-opening + 1
 
 abbrev pub text-room : ℕ
-text-room = head-room + (1 + (max-months + 1) + numbered-most) * line-room
-
--- room for the longest row
-abbrev pub row-room : ℕ
-row-room = max-months + max-sizes + 1
+text-room =
+    head-room + (most-lines Survive + (max-months + 1) + most-lines (Both 0) + most-lines (High 0) + most-lines (Low 0)) * line-room
 
 -- "A refused plan prints `refused ` and the number."
 unfoldable pub report-of : List ℕ → List ℕ

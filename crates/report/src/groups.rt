@@ -1,18 +1,124 @@
-// The groups of lines of the report: claims, both, high and low.
+// The groups of lines of the report: those of each question, and those of the count row.
 ghost use mathlib.Core.Path.{_≡_};
-ghost use Prim.Native.Nat.{_+_, _*_, _≤_, min};
+ghost use mathlib.Core.Bool.{false};
+ghost use Prim.Native.Nat.{ℕ, _+_, _*_, _^_, _<_, _≤_};
 ghost use lib.ListN.{length};
+ghost use Rattle.model.specs.Limits.{workspace-room};
 ghost use Rattle.model.specs.Plan.{plan-of};
-ghost use Rattle.model.specs.Refusal.{Accepted};
-ghost use Rattle.report.specs.Text.{Appended};
-ghost use Rattle.report.specs.Report.{claims-lines, both-lines, high-lines, low-lines, numbered-lines};
-ghost use Rattle.report.specs.Report.{line-room, both-most, high-most, low-most, numbered-most, workspace-room};
+ghost use Rattle.model.specs.Refusal.{HeadAccepted, Accepted, outside};
+ghost use Rattle.report.specs.Text.{joined, Appended};
+ghost use Rattle.report.specs.Report.{question-lines, span-of, group-lines, claims-at, claims-lines, line-room, most-lines};
+ghost use Rattle.report.specs.Report.{numbered as Report·numbered};
 use crate::answers;
-use crate::lines;
+use crate::lines::put_claims_line;
+use crate::lines::put_question;
 use model::Head;
 use model::Question;
 use model::limits;
+use numbers::lesser;
+use numbers::wide;
+use plan::lengths::largest_level;
 
+// The numbers of a question's lines: the first, and how many there are.
+pub struct Span {
+    pub first: usize,
+    pub count: usize,
+}
+
+fn span_of(question: Question, head: Head) -> Span
+    requires { ⌜ HeadAccepted head ⌝ }
+    ensures { λ r. ⌜ r ≡ span-of question head ⌝ }
+{
+    match question {
+        Question::Survive => Span { first: 0, count: 1 },
+        Question::Both(_) => Span {
+            first: 0,
+            count: lesser(head.months, limits::CLAIMS) + 1,
+        },
+        Question::High(_) => Span {
+            first: 1,
+            count: largest_level(head),
+        },
+        Question::Low(_) => Span {
+            first: 1,
+            count: head.opening + model::GAIN,
+        },
+    }
+}
+
+// All lines of a question.
+pub fn put_group(
+    text: &mut [u8],
+    at: usize,
+    head: Head,
+    question: Question,
+    row: &[u32],
+    workspace: &mut [u32],
+) -> usize
+    requires { ⌜ Accepted head (now row) ⌝ }
+    requires { ⌜ workspace-room ≤ length (now workspace) ⌝ }
+    requires { ⌜ at + most-lines question * line-room ≤ length (now text) ⌝ }
+    ensures { λ r. ⌜ Appended (now (text .entry)) at (group-lines (plan-of head (now (row .entry))) head question) (now (text .exit)) r ⌝ }
+{
+    let span = span_of(question, head);
+    put_questions(
+        text,
+        at,
+        head,
+        question,
+        span.first,
+        span.count,
+        row,
+        workspace,
+    )
+}
+
+// A question's lines, its number rising from the first.
+fn put_questions(
+    text: &mut [u8],
+    at: usize,
+    head: Head,
+    question: Question,
+    first: usize,
+    count: usize,
+    row: &[u32],
+    workspace: &mut [u32],
+) -> usize
+    requires { ⌜ Accepted head (now row) ⌝ }
+    requires { ⌜ ((i : ℕ) → i < count → outside (Report·numbered question (first + i)) ≡ false) ⌝ }
+    requires { ⌜ workspace-room ≤ length (now workspace) ⌝ }
+    requires { ⌜ (first + count < 2 ^ 64) × (at + count * line-room ≤ length (now text)) ⌝ }
+    ensures { λ r. ⌜ Appended (now (text .entry)) at (question-lines (plan-of head (now (row .entry))) question first count) (now (text .exit)) r ⌝ }
+{
+    let mut end = at;
+    let mut i = 0;
+    while i < count {
+        end = put_question(
+            text,
+            end,
+            head,
+            numbered(question, first + i),
+            row,
+            workspace,
+        );
+        i += 1;
+    }
+    end
+}
+
+// The same question with another number.
+fn numbered(question: Question, x: usize) -> Question
+    ensures { λ r. ⌜ r ≡ Report·numbered question x ⌝ }
+{
+    match question {
+        Question::Survive => Question::Survive,
+        Question::Both(_) => Question::Both(x),
+        Question::High(_) => Question::High(x),
+        Question::Low(_) => Question::Low(x),
+    }
+}
+
+// All lines of the count row.
 pub fn put_counts(text: &mut [u8], at: usize, head: Head, row: &[u32]) -> usize
     requires { ⌜ Accepted head (now row) ⌝ }
     requires { ⌜ at + (head .months + 1) * line-room ≤ length (now text) ⌝ }
@@ -21,67 +127,20 @@ pub fn put_counts(text: &mut [u8], at: usize, head: Head, row: &[u32]) -> usize
     let counts = answers::count_row_of(head, row);
     let lower = counts.lower;
     let upper = counts.upper;
-    lines::put_claims(text, at, head.months, &lower, &upper)
+    put_claims(text, at, head.months, &lower, &upper)
 }
 
-fn put_both(text: &mut [u8], at: usize, head: Head, row: &[u32], workspace: &mut [u32]) -> usize
-    requires { ⌜ Accepted head (now row) ⌝ }
-    requires { ⌜ workspace-room ≤ length (now workspace) ⌝ }
-    requires { ⌜ at + both-most * line-room ≤ length (now text) ⌝ }
-    ensures { λ r. ⌜ Appended (now (text .entry)) at (both-lines (plan-of head (now (row .entry))) head) (now (text .exit)) r ⌝ }
+// The lines of the count row, for no claims to as many as there are months.
+fn put_claims(text: &mut [u8], at: usize, months: usize, lower: &[u32], upper: &[u32]) -> usize
+    requires { ⌜ (months < length (now lower)) × (months < length (now upper)) ⌝ }
+    requires { ⌜ at + (months + 1) * line-room ≤ length (now text) ⌝ }
+    ensures { λ r. ⌜ Appended (now (text .entry)) at (joined (months + 1) (claims-at (now (lower .entry)) (now (upper .entry)))) (now (text .exit)) r ⌝ }
 {
-    let most = lesser(head.months, limits::CLAIMS);
-    lines::put_questions(
-        text,
-        at,
-        head,
-        Question::Both(0),
-        0,
-        most + 1,
-        row,
-        workspace,
-    )
-}
-
-fn lesser(a: usize, b: usize) -> usize
-    ensures { λ r. ⌜ r ≡ min a b ⌝ }
-{
-    if a < b { a } else { b }
-}
-
-fn put_high(text: &mut [u8], at: usize, head: Head, row: &[u32], workspace: &mut [u32]) -> usize
-    requires { ⌜ Accepted head (now row) ⌝ }
-    requires { ⌜ workspace-room ≤ length (now workspace) ⌝ }
-    requires { ⌜ at + high-most * line-room ≤ length (now text) ⌝ }
-    ensures { λ r. ⌜ Appended (now (text .entry)) at (high-lines (plan-of head (now (row .entry))) head) (now (text .exit)) r ⌝ }
-{
-    let count = head.opening + head.months;
-    lines::put_questions(text, at, head, Question::High(0), 1, count, row, workspace)
-}
-
-fn put_low(text: &mut [u8], at: usize, head: Head, row: &[u32], workspace: &mut [u32]) -> usize
-    requires { ⌜ Accepted head (now row) ⌝ }
-    requires { ⌜ workspace-room ≤ length (now workspace) ⌝ }
-    requires { ⌜ at + low-most * line-room ≤ length (now text) ⌝ }
-    ensures { λ r. ⌜ Appended (now (text .entry)) at (low-lines (plan-of head (now (row .entry))) head) (now (text .exit)) r ⌝ }
-{
-    let count = head.opening + 1;
-    lines::put_questions(text, at, head, Question::Low(0), 1, count, row, workspace)
-}
-
-pub fn put_numbered(
-    text: &mut [u8],
-    at: usize,
-    head: Head,
-    row: &[u32],
-    workspace: &mut [u32],
-) -> usize
-    requires { ⌜ Accepted head (now row) ⌝ }
-    requires { ⌜ workspace-room ≤ length (now workspace) ⌝ }
-    requires { ⌜ at + numbered-most * line-room ≤ length (now text) ⌝ }
-    ensures { λ r. ⌜ Appended (now (text .entry)) at (numbered-lines (plan-of head (now (row .entry))) head) (now (text .exit)) r ⌝ }
-{
-    let end = put_both(text, at, head, row, workspace);
-    let end = put_high(text, end, head, row, workspace);
-    put_low(text, end, head, row, workspace)
+    let mut end = at;
+    let mut k = 0;
+    while k <= months {
+        end = put_claims_line(text, end, k, wide(lower[k]), wide(upper[k]));
+        k += 1;
+    }
+    end
 }

@@ -4,22 +4,23 @@ mod groups;
 mod lines;
 mod text;
 
+use crate::groups::put_counts;
+use crate::groups::put_group;
 use crate::text::put_line;
 use model::Head;
 use model::Question;
 use model::limits;
+use plan::lengths::blank_row;
+use plan::lengths::row_length;
 ghost use mathlib.Core.Path.{_≡_};
 ghost use Prim.Native.Nat.{_≤_};
 ghost use mathlib.Core.List.{[], _∷_, _++_};
 ghost use lib.ListN.{length, take, drop};
+ghost use Rattle.model.specs.Limits.{row-room, workspace-room};
 ghost use Rattle.model.specs.Plan.{row-length};
 ghost use Rattle.model.specs.Refusal.{Accepted};
 ghost use Rattle.report.specs.Text.{line, Appended};
-ghost use Rattle.report.specs.Report.{row-room, text-room, workspace-room, refused-word, plan-report, report-of};
-
-const ROW: usize = limits::MONTHS + limits::SIZES + 1;
-
-const WORKSPACE: usize = 2 * (limits::OPENING + limits::MONTHS + 1) * (limits::CLAIMS + 1);
+ghost use Rattle.report.specs.Report.{text-room, refused-word, plan-report, report-of};
 
 // Room for every report: the longest is below 39,000 bytes.
 pub const TEXT: usize = 65536;
@@ -31,22 +32,16 @@ pub fn report(bytes: &[u8], text: &mut [u8; TEXT]) -> usize
     ensures written { λ r. ⌜ now (text .exit) ≡ report-of (now (bytes .entry)) ++ drop r (now (text .entry)) ⌝ }
     ensures within { λ r. ⌜ (r ≤ length (now (text .exit))) × (r ≡ length (take r (now (text .exit)))) ⌝ }
 {
-    let mut row = row();
+    let mut row = blank_row();
     let mut workspace = workspace();
     put_report(text, bytes, &mut row, &mut workspace)
 }
 
 // The `ensures` gives the length, which lending the array needs.
-fn row() -> [u32; ROW]
-    ensures { λ r. ⌜ row-room ≡ length r ⌝ }
-{
-    [0; ROW]
-}
-
-fn workspace() -> [u32; WORKSPACE]
+fn workspace() -> [u32; limits::WORKSPACE]
     ensures { λ r. ⌜ workspace-room ≡ length r ⌝ }
 {
-    [0; WORKSPACE]
+    [0; limits::WORKSPACE]
 }
 
 fn put_report(text: &mut [u8], bytes: &[u8], row: &mut [u32], workspace: &mut [u32]) -> usize
@@ -77,7 +72,7 @@ fn put_accepted(text: &mut [u8], head: Head, row: &[u32], workspace: &mut [u32])
     requires { ⌜ text-room ≤ length (now text) ⌝ }
     ensures { λ r. ⌜ Appended (now (text .entry)) 0 (plan-report head (take (row-length head) (now (row .entry)))) (now (text .exit)) r ⌝ }
 {
-    let used = head.months + head.sizes + 1;
+    let used = row_length(head);
     put_plan(text, head, &row[..used], workspace)
 }
 
@@ -88,7 +83,9 @@ fn put_plan(text: &mut [u8], head: Head, row: &[u32], workspace: &mut [u32]) -> 
     ensures { λ r. ⌜ Appended (now (text .entry)) 0 (plan-report head (now (row .entry))) (now (text .exit)) r ⌝ }
 {
     let end = lines::put_head(text, 0, head);
-    let end = lines::put_question(text, end, head, Question::Survive, row, workspace);
-    let end = groups::put_counts(text, end, head, row);
-    groups::put_numbered(text, end, head, row, workspace)
+    let end = put_group(text, end, head, Question::Survive, row, workspace);
+    let end = put_counts(text, end, head, row);
+    let end = put_group(text, end, head, Question::Both(0), row, workspace);
+    let end = put_group(text, end, head, Question::High(0), row, workspace);
+    put_group(text, end, head, Question::Low(0), row, workspace)
 }

@@ -1,13 +1,13 @@
 // The lines of the report, appended to a text.
 ghost use mathlib.Core.Path.{_≡_};
 ghost use mathlib.Core.Bool.{false};
-ghost use Prim.Native.Nat.{ℕ, _+_, _*_, _^_, _<_, _≤_};
+ghost use Prim.Native.Nat.{_+_, _≤_};
 ghost use lib.ListN.{length};
+ghost use Rattle.model.specs.Limits.{workspace-room};
 ghost use Rattle.model.specs.Plan.{plan-of};
 ghost use Rattle.model.specs.Refusal.{Accepted, outside};
-ghost use Rattle.report.specs.Text.{joined, Appended};
-ghost use Rattle.report.specs.Report.{head-line, head-room, bounds-line, question-line, question-lines, claims-line, claims-at, line-room, workspace-room};
-ghost use Rattle.report.specs.Report.{numbered as Report·numbered};
+ghost use Rattle.report.specs.Text.{Appended};
+ghost use Rattle.report.specs.Report.{head-line, head-room, bounds-line, question-line, claims-line, line-room};
 use crate::answers;
 use crate::text::put_entry;
 use crate::text::put_line;
@@ -58,75 +58,9 @@ pub fn put_question(
     put_bounds(text, at, question, bounds.lower as u64, bounds.upper as u64)
 }
 
-// The same question with another number.
-fn numbered(question: Question, x: usize) -> Question
-    ensures { λ r. ⌜ r ≡ Report·numbered question x ⌝ }
-{
-    match question {
-        Question::Survive => Question::Survive,
-        Question::Both(_) => Question::Both(x),
-        Question::High(_) => Question::High(x),
-        Question::Low(_) => Question::Low(x),
-    }
-}
-
-// A question's lines, its number rising from the first.
-pub fn put_questions(
-    text: &mut [u8],
-    at: usize,
-    head: Head,
-    question: Question,
-    first: usize,
-    count: usize,
-    row: &[u32],
-    workspace: &mut [u32],
-) -> usize
-    requires { ⌜ Accepted head (now row) ⌝ }
-    requires { ⌜ ((i : ℕ) → i < count → outside (Report·numbered question (first + i)) ≡ false) ⌝ }
-    requires { ⌜ workspace-room ≤ length (now workspace) ⌝ }
-    requires { ⌜ (first + count < 2 ^ 64) × (at + count * line-room ≤ length (now text)) ⌝ }
-    ensures { λ r. ⌜ Appended (now (text .entry)) at (question-lines (plan-of head (now (row .entry))) question first count) (now (text .exit)) r ⌝ }
-{
-    let mut end = at;
-    let mut i = 0;
-    while i < count {
-        end = put_question(
-            text,
-            end,
-            head,
-            numbered(question, first + i),
-            row,
-            workspace,
-        );
-        i += 1;
-    }
-    end
-}
-
-fn put_claims_line(text: &mut [u8], at: usize, k: usize, lower: u64, upper: u64) -> usize
+pub fn put_claims_line(text: &mut [u8], at: usize, k: usize, lower: u64, upper: u64) -> usize
     requires { ⌜ at + line-room ≤ length (now text) ⌝ }
     ensures { λ r. ⌜ Appended (now (text .entry)) at (claims-line k lower upper) (now (text .exit)) r ⌝ }
 {
     put_line(text, at, b"claims", &[k as u64, lower, upper])
-}
-
-// The lines of the count row, for no claims to as many as there are months.
-pub fn put_claims(text: &mut [u8], at: usize, months: usize, lower: &[u32], upper: &[u32]) -> usize
-    requires { ⌜ (months < length (now lower)) × (months < length (now upper)) ⌝ }
-    requires { ⌜ at + (months + 1) * line-room ≤ length (now text) ⌝ }
-    ensures { λ r. ⌜ Appended (now (text .entry)) at (joined (months + 1) (claims-at (now (lower .entry)) (now (upper .entry)))) (now (text .exit)) r ⌝ }
-{
-    let mut end = at;
-    let mut k = 0;
-    while k <= months {
-        end = put_claims_line(text, end, k, wide(lower[k]), wide(upper[k]));
-        k += 1;
-    }
-    end
-}
-
-fn wide(x: u32) -> u64
-    ensures { λ r. ⌜ r ≡ x ⌝ }
-{
-    x as u64
 }

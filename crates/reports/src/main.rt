@@ -2,6 +2,7 @@
 // as two bytes with its length, most significant first, and its bytes.
 use libc::STDIN_FILENO;
 use libc::STDOUT_FILENO;
+use numbers::index;
 
 fn main() {
     let mut plans = io::large_buffer();
@@ -14,17 +15,13 @@ fn print_reports(plans: &[u8]) {
     let mut at = 0;
     while 2 <= plans.len() - at {
         let start = at + 2;
-        let length = (wide(plans[at]) << 8) | wide(plans[at + 1]);
+        let length = (index(plans[at]) << 8) | index(plans[at + 1]);
         if plans.len() - start < length {
             return;
         }
         at = start + length;
         print_report(&plans[start..at]);
     }
-}
-
-fn wide(byte: u8) -> usize {
-    byte as usize
 }
 
 fn print_report(plan: &[u8]) {

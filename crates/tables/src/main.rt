@@ -6,14 +6,8 @@ use model::Ask;
 use model::Head;
 use model::Question;
 use model::limits;
-ghost use mathlib.Core.Path.{_≡_};
-ghost use Prim.Native.Nat.{_+_};
-ghost use lib.ListN.{length};
-ghost use Rattle.model.specs.Limits.{max-months, max-sizes};
-
-const ROW: usize = limits::MONTHS + limits::SIZES + 1;
-
-const WORKSPACE: usize = 2 * (limits::OPENING + limits::MONTHS + 1);
+use numbers::index;
+use plan::lengths::blank_row;
 
 // A proved loop has to end, and nothing says that the input does, so the plans are counted down.
 fn main() {
@@ -32,7 +26,7 @@ fn next_plan() -> bool {
     if io::read_full(STDIN_FILENO, &mut size) < 2 {
         return false;
     }
-    let length = (wide(size[0]) << 8) | wide(size[1]);
+    let length = (index(size[0]) << 8) | index(size[1]);
     let mut bytes = io::buffer();
     if bytes.len() < length {
         return false;
@@ -41,20 +35,9 @@ fn next_plan() -> bool {
     true
 }
 
-fn wide(byte: u8) -> usize {
-    byte as usize
-}
-
-// The `ensures` gives the length, which lending a part of the array needs.
-fn row() -> [u32; ROW]
-    ensures { λ r. ⌜ max-months + max-sizes + 1 ≡ length r ⌝ }
-{
-    [0; ROW]
-}
-
 fn read_plan(bytes: &mut [u8]) {
     io::read_full(STDIN_FILENO, bytes);
-    let mut row = row();
+    let mut row = blank_row();
     let plan = codec::read(bytes, &mut row);
     let head = plan.head;
     let months = head.months;
@@ -70,7 +53,7 @@ fn read_plan(bytes: &mut [u8]) {
 }
 
 fn print_survival(head: Head, row: &[u32]) {
-    let mut workspace = [0u32; WORKSPACE];
+    let mut workspace = [0u32; limits::WORKSPACE];
     let question = Question::Survive;
     let answer = engine::ask(Ask { head, question }, row, &mut workspace);
     io::print_decimal(STDOUT_FILENO, rounded(answer.lower));

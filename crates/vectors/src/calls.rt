@@ -1,8 +1,8 @@
 // One call a record, and its line: the refusal's number, what was answered, and the lent memory after it.
 ghost use mathlib.Core.Path.{_≡_};
-ghost use Prim.Native.Nat.{_+_, _*_};
+ghost use Prim.Native.Nat.{_+_};
 ghost use lib.ListN.{length};
-ghost use Rattle.model.specs.Limits.{max-months, max-opening, max-claims};
+ghost use Rattle.model.specs.Limits.{workspace-room};
 use crate::format;
 use crate::record::Record;
 use crate::text;
@@ -12,7 +12,7 @@ use model::Question;
 use model::limits;
 
 // The largest workspace, that of both 24, and a few numbers more.
-const ROOM: usize = 2 * (limits::OPENING + limits::MONTHS + 1) * (limits::CLAIMS + 1) + 6;
+const ROOM: usize = limits::WORKSPACE + 6;
 
 pub fn call(record: Record, row: &[u32]) {
     let kind = record.kind;
@@ -41,7 +41,7 @@ fn ask(record: Record, question: Question, row: &[u32]) {
 
 // The `ensures` gives the length, which lending a part of the array needs.
 fn workspace(fill: u32) -> [u32; ROOM]
-    ensures { λ r. ⌜ 2 * (max-opening + max-months + 1) * (max-claims + 1) + 6 ≡ length r ⌝ }
+    ensures { λ r. ⌜ workspace-room + 6 ≡ length r ⌝ }
 {
     [fill; ROOM]
 }

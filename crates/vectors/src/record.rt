@@ -62,14 +62,10 @@ fn word(bytes: &[u8], at: usize) -> usize
 pub fn number(bytes: &[u8], at: usize) -> u32
     requires { ⌜ at + 4 ≤ length (now bytes) ⌝ }
 {
-    (wide(bytes[at]) << 24)
-        | (wide(bytes[at + 1]) << 16)
-        | (wide(bytes[at + 2]) << 8)
-        | wide(bytes[at + 3])
-}
-
-fn wide(byte: u8) -> u32 {
-    byte as u32
+    (numbers::word(bytes[at]) << 24)
+        | (numbers::word(bytes[at + 1]) << 16)
+        | (numbers::word(bytes[at + 2]) << 8)
+        | numbers::word(bytes[at + 3])
 }
 
 // Room for a row and for a plan's bytes. The `ensures` gives the length, which lending a part of the array needs.

@@ -1,5 +1,7 @@
 // The parts of a line of the output, with one space between.
 use model::limits::PLACES;
+use numbers::wide;
+use numbers::word;
 
 pub fn first(x: u64) {
     io::print_decimal(libc::STDOUT_FILENO, x);
@@ -24,22 +26,14 @@ pub fn count_row(lower: &[u32; PLACES], upper: &[u32; PLACES]) {
     }
 }
 
-fn wide(x: u32) -> u64 {
-    x as u64
-}
-
 // Lent bytes, in hexadecimal.
 pub fn bytes(memory: &[u8]) {
     let mut i = 0;
     while i < memory.len() {
         io::write_all(libc::STDOUT_FILENO, b" ");
-        io::print_hex(libc::STDOUT_FILENO, byte(memory[i]), 2);
+        io::print_hex(libc::STDOUT_FILENO, wide(word(memory[i])), 2);
         i += 1;
     }
-}
-
-fn byte(x: u8) -> u64 {
-    x as u64
 }
 
 // Lent numbers, as a checksum that depends on each number and its place.

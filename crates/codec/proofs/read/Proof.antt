@@ -8,8 +8,8 @@ use lib.ListN.{length, drop, length-take}
 use lib.Seq.{length-take-le}
 use Rattle.model.specs.Plan.{row-length}
 use Rattle.model.specs.Format.{head-bits, bits-of, fields, head-of, row-of}
-use Rattle.model.specs.Refusal.{first, head-checks, read-refusal}
-use Rattle.model.proofs.Facts.{HeadFacts, head-facts}
+use Rattle.model.specs.Refusal.{HeadAccepted, read-refusal}
+use Rattle.model.proofs.Facts.{head-facts}
 use Rattle.codec.specs.Answers.{no-head}
 use Rattle.codec.proofs.Refusals.{Readable, readable, row-inside}
 use Rattle.codec.proofs.Answered.{read-as, reads, reads-row, read-refused, row-kept}
@@ -42,11 +42,11 @@ known c = readable _ _ (none c)
 head-of-requires : tie.Need-head-of-requires
 head-of-requires c κs = known c .whole-head
 
-limits : (c : tie.After-head-of) → HeadFacts (c .head-of .result)
-limits c = head-facts _ (ap (λ h. first (head-checks h)) (c .head-of .ensures) ∙ known (c .before) .head-ok)
+head-ok : (c : tie.After-head-of) → HeadAccepted (c .head-of .result)
+head-ok c = rw (c .head-of .ensures) (known (c .before) .head-ok)
 
 row-length-requires : tie.Need-row-length-requires
-row-length-requires c κs = (limits c .months-fit, limits c .sizes-fit)
+row-length-requires c κs = head-ok c
 
 count-is :
     (c : tie.After-row-length)
@@ -66,7 +66,7 @@ decode-requires c κs =
       arith,
       count-is (c .before),
       c .before .row-length .ensures,
-      limits (c .before .before),
+      head-facts _ (head-ok (c .before .before)),
       row-inside _ _ (known (c .before .before .before)),
     ))
 

@@ -8,7 +8,7 @@ use lib.ListN.{length, drop}
 use lib.Seq.{length-take-le}
 use Rattle.model.specs.Format.{byte-length}
 use Rattle.model.specs.Refusal.{Accepted, write-refusal}
-use Rattle.model.proofs.Facts.{facts}
+use Rattle.model.proofs.Facts.{accepted-head}
 use Rattle.codec.proofs.Refusals.{written}
 use Rattle.codec.proofs.Answered.{written-as, writes, writes-bytes, write-refused, bytes-kept}
 use Rattle.codec.proofs.write.Statement.{statement}
@@ -42,7 +42,7 @@ known :
 known c = written _ _ _ (none c)
 
 byte-length-requires : tie.Need-byte-length-requires
-byte-length-requires c κs = let limits = facts _ _ (known c .0) in (limits .months-fit, limits .sizes-fit)
+byte-length-requires c κs = accepted-head _ _ (known c .0)
 
 slice-relend-prefix-encode : tie.Need-slice-relend-prefix-encode
 slice-relend-prefix-encode c = omega (arith, c .byte-length .ensures, known (c .before) .1)

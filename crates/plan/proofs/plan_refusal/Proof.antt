@@ -8,12 +8,14 @@ use native.Mathlib.Omega.{arith}
 use borrow.Author.Needs.{needs}
 use borrow.Author.Tests.{lt-ltb, le-ltb, eq-eqb, ne-eqb}
 use lib.Dec.{ltb, eqb}
-use lib.ListN.{getD, drop, length-take, length-drop}
+use lib.ListN.{length, getD, drop, length-take, length-drop}
 use lib.Seq.{take-all}
 use Rattle.model.specs.declared.Head.{Head}
 use Rattle.model.specs.Scale.{S}
 use Rattle.model.specs.Sums.{total}
-use Rattle.model.specs.Refusal.{first, head-checks, plan-refusal}
+use Rattle.model.specs.Plan.{row-length}
+use Rattle.model.specs.Levels.{largest-level}
+use Rattle.model.specs.Refusal.{HeadAccepted, plan-refusal}
 use Rattle.model.proofs.Facts.{HeadFacts, head-facts}
 use Rattle.plan.proofs.Checks.{by-head, by-length, by-chance, by-weights}
 use Rattle.plan.proofs.plan_refusal.Statement.{statement}
@@ -26,20 +28,24 @@ returns : tie.Need-returns
 returns c = sym (by-head _ _ (λ e. c .if1 .taken (c .before .head-refusal .ensures ∙ e)) ∙ sym (c .before .head-refusal .ensures))
 
 -- the head is accepted
-head-ok : (c : tie.Else1) → first (head-checks (c .before .before .before .args .head)) ≡ 0
+head-ok : (c : tie.Else1) → HeadAccepted (c .before .before .before .args .head)
 head-ok c = sym (c .before .head-refusal .ensures) ∙ c .if1 .left
 
 limits : (c : tie.Else1) → HeadFacts (c .before .before .before .args .head)
 limits c = head-facts _ (head-ok c)
 
-add-if2 : tie.Need-add-if2
-add-if2 c = omega (arith, limits c)
-
-add-if2-2 : tie.Need-add-if2-2
-add-if2-2 c = omega (arith, limits c)
+row-length-requires : tie.Need-row-length-requires
+row-length-requires c κs = head-ok c
 
 returns-2 : tie.Need-returns-2
-returns-2 c = sym (by-length _ _ (head-ok (c .before)) (c .if2 .taken))
+returns-2 c =
+    sym (by-length _ _ (head-ok (c .before .before)) (λ e. c .if2 .taken (e ∙ sym (c .before .row-length .ensures))))
+
+-- the row is as long as the head says
+row-is :
+    (c : tie.Else2)
+    → length (c .before .before .before .before .before .args .row .now) ≡ row-length (c .before .before .before .before .before .args .head)
+row-is c = c .if2 .left ∙ c .before .row-length .ensures
 
 some-above-requires : tie.Need-some-above-requires
 some-above-requires c κs = search needs
@@ -49,8 +55,8 @@ unfolding S
 returns-3 c =
     sym
     (by-chance _ _
-    (head-ok (c .before .before .before))
-    (c .before .before .if2 .left)
+    (head-ok (c .before .before .before .before))
+    (row-is (c .before .before))
     (sym (c .before .some-above .ensures) ∙ c .if3 .taken))
 
 mul-sum-of : tie.Need-mul-sum-of
@@ -66,16 +72,16 @@ part-sum-of-end : tie.Need-part-sum-of-end
 part-sum-of-end c = search needs
 
 sum-of-requires : tie.Need-sum-of-requires
-sum-of-requires c κs = simp (length-take, length-drop) (omega (arith, limits (c .before .before .before .before)))
+sum-of-requires c κs = simp (length-take, length-drop) (omega (arith, limits (c .before .before .before .before .before), row-is (c .before .before .before)))
 
 cast-if4 : tie.Need-cast-if4
 cast-if4 c = search needs
 
 abbrev head-at : tie.After-sum-of → Head
-head-at c = c .before .before .before .before .before .before .before .before .args .head
+head-at c = c .before .before .before .before .before .before .before .before .before .args .head
 
 abbrev row-at : tie.After-sum-of → List ℕ
-row-at c = c .before .before .before .before .before .before .before .before .args .row .now
+row-at c = c .before .before .before .before .before .before .before .before .before .args .row .now
 
 -- the sum is that of the weights and the tail
 summed :
@@ -89,12 +95,12 @@ weighed :
     (c : tie.After-sum-of)
     → plan-refusal (head-at c) (row-at c)
     ≡ cond (not (eqb (c .sum-of .result) S)) 8
-    (cond (ltb 0 (getD (row-at c) (head-at c .months + head-at c .sizes) 0) && ltb (head-at c .sizes + 1) (head-at c .opening + head-at c .months)) 9 0)
+    (cond (ltb 0 (getD (row-at c) (head-at c .months + head-at c .sizes) 0) && ltb (head-at c .sizes + 1) (largest-level (head-at c .opening) (head-at c .months))) 9 0)
 unfolding S
 weighed c =
     by-weights _ _
-    (head-ok (c .before .before .before .before .before))
-    (c .before .before .before .before .if2 .left)
+    (head-ok (c .before .before .before .before .before .before))
+    (row-is (c .before .before .before .before))
     (sym (c .before .before .before .some-above .ensures) ∙ c .before .before .if3 .left)
     _
     (summed c)
@@ -115,16 +121,17 @@ shared-slice-read-if5 c = search needs
 add-if6 : tie.Need-add-if6
 add-if6 c = search needs
 
-add-if6-2 : tie.Need-add-if6-2
-add-if6-2 c = omega (arith, limits (c .before .before .before .before .before .before .before .before))
+largest-level-requires : tie.Need-largest-level-requires
+largest-level-requires c κs = head-ok (c .before .before .before .before .before .before .before .before .before)
 
 returns-5 : tie.Need-returns-5
 unfolding S
 returns-5 c =
     rw (
-      weighed (c .before .before .before .before),
-      eq-eqb _ _ (c .before .before .before .if4 .left),
-      lt-ltb _ _ (c .before .if5 .taken),
+      weighed (c .before .before .before .before .before),
+      eq-eqb _ _ (c .before .before .before .before .if4 .left),
+      lt-ltb _ _ (c .before .before .if5 .taken),
+      ← c .before .largest-level .ensures,
       lt-ltb _ _ (c .if6 .taken),
     )
 
@@ -132,9 +139,10 @@ returns-6 : tie.Need-returns-6
 unfolding S
 returns-6 c =
     rw (
-      weighed (c .before .before .before .before),
-      eq-eqb _ _ (c .before .before .before .if4 .left),
-      lt-ltb _ _ (c .before .if5 .taken),
+      weighed (c .before .before .before .before .before),
+      eq-eqb _ _ (c .before .before .before .before .if4 .left),
+      lt-ltb _ _ (c .before .before .if5 .taken),
+      ← c .before .largest-level .ensures,
       le-ltb _ _ (c .if6 .left),
     )
 
@@ -149,8 +157,7 @@ plan-refusal-spec =
     (tie.spec
     head-refusal-requires
     returns
-    add-if2
-    add-if2-2
+    row-length-requires
     returns-2
     some-above-requires
     returns-3
@@ -165,7 +172,7 @@ plan-refusal-spec =
     mul-if5
     shared-slice-read-if5
     add-if6
-    add-if6-2
+    largest-level-requires
     returns-5
     returns-6
     returns-7)

@@ -1,9 +1,8 @@
 -- `report::put_accepted` meets its contract: the row of an accepted plan has the length that its head asks. Assumes nothing.
 use mathlib.Core.Path.{sym}
-use native.Mathlib.Omega.{arith}
 use lib.ListN.{take}
 use Rattle.model.specs.Plan.{row-length}
-use Rattle.model.proofs.Facts.{Facts, facts}
+use Rattle.model.proofs.Facts.{Facts, facts, accepted-head}
 use borrow.Author.Needs.{needs}
 use Rattle.report.proofs.put_accepted.Statement.{statement}
 use Rattle.report.proofs.put_accepted.Tie as tie
@@ -11,17 +10,14 @@ use Rattle.report.proofs.put_accepted.Tie as tie
 plan : (s : tie.Start) → Facts (s .args .head) (take (row-length (s .args .head)) (s .args .row .now))
 plan s = facts _ _ (s .pre .0)
 
-add-used : tie.Need-add-used
-add-used c = omega (arith, plan (c .before .before .before .before) .months-fit, plan (c .before .before .before .before) .sizes-fit)
-
-add-used-2 : tie.Need-add-used-2
-add-used-2 c = omega (arith, plan (c .before .before .before .before) .months-fit, plan (c .before .before .before .before) .sizes-fit)
+row-length-requires : tie.Need-row-length-requires
+row-length-requires c κs = accepted-head _ _ (c .before .before .before .pre .0)
 
 slice-aggregate-put-plan : tie.Need-slice-aggregate-put-plan
-slice-aggregate-put-plan c = sym (plan (c .before .before .before .before .before .before) .row-is)
+slice-aggregate-put-plan c = rw (c .before .before .row-length .ensures) (sym (plan (c .before .before .before .before .before .before) .row-is))
 
 put-plan-requires : tie.Need-put-plan-requires
-put-plan-requires c κs = search needs
+put-plan-requires c κs = rw (c .before .before .before .row-length .ensures) (search needs)
 
 same-length : tie.Need-same-length
 same-length c = search needs
@@ -30,14 +26,13 @@ same-length-2 : tie.Need-same-length-2
 same-length-2 c = search needs
 
 returns : tie.Need-returns
-returns c = search needs
+returns c = rw (c .before .before .before .before .before .before .before .before .row-length .ensures) at (c .before .before .before .before .put-plan .ensures)
 
 pub put-accepted-spec : {M : Type 1} → statement M
 put-accepted-spec =
     tie.close
     (tie.spec
-    add-used
-    add-used-2
+    row-length-requires
     slice-aggregate-put-plan
     put-plan-requires
     same-length

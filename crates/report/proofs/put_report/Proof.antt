@@ -1,12 +1,12 @@
 -- `report::put_report` meets its contract, from what reading answers and leaves in the row. Assumes nothing.
 use mathlib.Core.Path.{_≡_, sym, ap, _∙_}
 use lib.ListN.{length, take}
+use Rattle.model.specs.Limits.{row-room}
 use Rattle.model.specs.Plan.{row-length}
 use Rattle.model.specs.Format.{head-of, row-of}
 use Rattle.model.specs.Refusal.{read-refusal}
 use Rattle.codec.proofs.Answered.{read-number, reads}
 use Rattle.codec.proofs.Refusals.{readable}
-use Rattle.report.specs.Report.{row-room}
 use Rattle.report.proofs.Laws.{report-refused, report-accepted, row-read}
 use borrow.Author.Needs.{needs}
 use Rattle.report.proofs.put_report.Statement.{statement}

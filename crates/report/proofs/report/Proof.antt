@@ -2,12 +2,13 @@
 use mathlib.Core.Path.{sym}
 use borrow.Author.Needs.{needs}
 use lib.Seq.{length-take-le}
+use Rattle.report.specs.Report.{most-lines}
 use Rattle.report.proofs.TextLaws.{appended-whole}
 use Rattle.report.proofs.report.Statement.{statement}
 use Rattle.report.proofs.report.Tie as tie
 
-row-requires : tie.Need-row-requires
-row-requires c κs = search needs
+blank-row-requires : tie.Need-blank-row-requires
+blank-row-requires c κs = search needs
 
 workspace-requires : tie.Need-workspace-requires
 workspace-requires c κs = search needs
@@ -19,6 +20,7 @@ slice-aggregate-put-report-2 : tie.Need-slice-aggregate-put-report-2
 slice-aggregate-put-report-2 c = search needs
 
 put-report-requires : tie.Need-put-report-requires
+unfolding most-lines
 put-report-requires c κs = search needs
 
 returns : tie.Need-returns
@@ -31,7 +33,7 @@ pub report-spec : {M : Type 1} → statement M
 report-spec =
     tie.close
     (tie.spec
-    row-requires
+    blank-row-requires
     workspace-requires
     slice-aggregate-put-report
     slice-aggregate-put-report-2

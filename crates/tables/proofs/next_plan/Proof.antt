@@ -14,17 +14,17 @@ read-full-requires c κs = search needs
 returns : tie.Need-returns
 returns c = search needs
 
-array-read-wide : tie.Need-array-read-wide
-array-read-wide c = search needs
+array-read-index : tie.Need-array-read-index
+array-read-index c = search needs
 
-wide-requires : tie.Need-wide-requires
-wide-requires c κs = search needs
+index-requires : tie.Need-index-requires
+index-requires c κs = search needs
 
-array-read-wide-2 : tie.Need-array-read-wide-2
-array-read-wide-2 c = search needs
+array-read-index-2 : tie.Need-array-read-index-2
+array-read-index-2 c = search needs
 
-wide-requires-2 : tie.Need-wide-requires-2
-wide-requires-2 c κs = search needs
+index-requires-2 : tie.Need-index-requires-2
+index-requires-2 c κs = search needs
 
 buffer-requires : tie.Need-buffer-requires
 buffer-requires c κs = search needs
@@ -51,10 +51,10 @@ next-plan-spec =
     slice-aggregate-read-full
     read-full-requires
     returns
-    array-read-wide
-    wide-requires
-    array-read-wide-2
-    wide-requires-2
+    array-read-index
+    index-requires
+    array-read-index-2
+    index-requires-2
     buffer-requires
     returns-2
     array-borrow-prefix-bytes

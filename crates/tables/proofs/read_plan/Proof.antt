@@ -8,8 +8,8 @@ use Rattle.tables.proofs.read_plan.Tie as tie
 read-full-requires : tie.Need-read-full-requires
 read-full-requires c κs = search needs
 
-row-requires : tie.Need-row-requires
-row-requires c κs = search needs
+blank-row-requires : tie.Need-blank-row-requires
+blank-row-requires c κs = search needs
 
 slice-aggregate-read : tie.Need-slice-aggregate-read
 slice-aggregate-read c = search needs
@@ -55,7 +55,7 @@ read-plan-spec =
     tie.close
     (tie.spec
     read-full-requires
-    row-requires
+    blank-row-requires
     slice-aggregate-read
     read-requires
     same-length

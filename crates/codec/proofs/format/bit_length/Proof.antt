@@ -2,6 +2,7 @@
 use native.Mathlib.Omega.{arith}
 use borrow.Author.Needs.{needs}
 use Rattle.model.specs.Format.{bit-length, head-bits}
+use Rattle.model.proofs.Facts.{head-facts}
 use Rattle.codec.proofs.format.bit_length.Statement.{statement}
 use Rattle.codec.proofs.format.bit_length.Tie as tie
 
@@ -9,10 +10,10 @@ row-length-requires : tie.Need-row-length-requires
 row-length-requires c κs = search needs
 
 mul-result : tie.Need-mul-result
-mul-result c = search needs
+mul-result c = omega (arith, c .row-length .ensures, head-facts _ (c .before .pre))
 
 add-result : tie.Need-add-result
-add-result c = search needs
+add-result c = omega (arith, c .row-length .ensures, head-facts _ (c .before .pre))
 
 returns : tie.Need-returns
 unfolding bit-length head-bits

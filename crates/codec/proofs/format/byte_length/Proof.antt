@@ -2,6 +2,7 @@
 use native.Mathlib.Omega.{arith}
 use borrow.Author.Needs.{needs}
 use Rattle.model.specs.Format.{bit-length, byte-length, head-bits}
+use Rattle.model.proofs.Facts.{head-facts}
 use Rattle.codec.proofs.format.byte_length.Statement.{statement}
 use Rattle.codec.proofs.format.byte_length.Tie as tie
 
@@ -10,7 +11,7 @@ bit-length-requires c κs = search needs
 
 add-result : tie.Need-add-result
 unfolding bit-length head-bits
-add-result c = omega arith
+add-result c = omega (arith, c .bit-length .ensures, head-facts _ (c .before .pre))
 
 returns : tie.Need-returns
 unfolding byte-length

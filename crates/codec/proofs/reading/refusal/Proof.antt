@@ -13,8 +13,8 @@ use lib.Seq.{take-all}
 use Rattle.model.specs.Sums.{any}
 use Rattle.model.specs.Plan.{row-length}
 use Rattle.model.specs.Format.{number, head-bits, bits-of, fields, bit-length, byte-length, head-of, row-of, fill-of}
-use Rattle.model.specs.Refusal.{first, head-checks, plan-refusal, read-refusal}
-use Rattle.model.proofs.Facts.{HeadFacts, head-facts}
+use Rattle.model.specs.Refusal.{first, head-checks, HeadAccepted, plan-refusal, read-refusal}
+use Rattle.model.proofs.Facts.{head-facts}
 use Rattle.codec.proofs.PlanBits.{length-bits-of, longest, byte-length-fits}
 use Rattle.codec.proofs.Refusals.{fill-test, read-stub, read-head, read-length, read-padding, read-numbers, read-room}
 use Rattle.codec.proofs.reading.refusal.Statement.{statement}
@@ -43,14 +43,15 @@ returns-2 c =
 abbrev bytes-at : tie.Else2 → List ℕ
 bytes-at c = c .before .before .before .before .before .args .bytes .now
 
-head-ok : (c : tie.Else2) → first (head-checks (head-of (bytes-at c))) ≡ 0
+head-ok : (c : tie.Else2) → HeadAccepted (head-of (bytes-at c))
 head-ok c = sym (head-number (c .before)) ∙ c .if2 .left
 
-limits : (c : tie.Else2) → HeadFacts (c .before .before .head-of .result)
-limits c = head-facts _ (sym (c .before .head-refusal .ensures) ∙ c .if2 .left)
+-- of the head as it was read
+head-ok-here : (c : tie.Else2) → HeadAccepted (c .before .before .head-of .result)
+head-ok-here c = sym (c .before .head-refusal .ensures) ∙ c .if2 .left
 
 byte-length-requires : tie.Need-byte-length-requires
-byte-length-requires c κs = (limits c .months-fit, limits c .sizes-fit)
+byte-length-requires c κs = head-ok-here c
 
 byte-length-is : (c : tie.After-byte-length) → c .byte-length .result ≡ byte-length (head-of (bytes-at (c .before)))
 byte-length-is c = c .byte-length .ensures ∙ ap byte-length (c .before .before .before .head-of .ensures)
@@ -67,7 +68,7 @@ length-is : (c : tie.Else3) → length (bytes-at (c .before .before)) ≡ byte-l
 length-is c = c .if3 .left ∙ byte-length-is (c .before)
 
 bit-length-requires : tie.Need-bit-length-requires
-bit-length-requires c κs = (limits (c .before .before) .months-fit, limits (c .before .before) .sizes-fit)
+bit-length-requires c κs = head-ok-here (c .before .before)
 
 -- the row ends in the last byte
 ends :
@@ -77,13 +78,12 @@ ends :
     × (length (bytes-at (c .before .before .before)) ≤ longest)
 unfolding byte-length
 ends c =
-    let head-limits = limits (c .before .before .before) in
     omega (
       arith,
       c .bit-length .ensures,
       c .before .before .byte-length .ensures,
       c .before .if3 .left,
-      byte-length-fits (c .before .before .before .before .before .head-of .result) (head-limits .months-fit) (head-limits .sizes-fit),
+      byte-length-fits _ (head-ok-here (c .before .before .before)),
     )
 
 mul-fill : tie.Need-mul-fill
@@ -130,14 +130,13 @@ fill-zero : (c : tie.Else4) → any (eqb 1) (fill-of (bytes-at (c .before .befor
 fill-zero c = padding (c .before) ∙ ap (λ n. not (eqb n 0)) (c .if4 .left)
 
 row-length-requires : tie.Need-row-length-requires
-row-length-requires c κs =
-    (limits (c .before .before .before .before .before) .months-fit, limits (c .before .before .before .before .before) .sizes-fit)
+row-length-requires c κs = head-ok-here (c .before .before .before .before .before)
 
 numbers-refusal-requires : tie.Need-numbers-refusal-requires
 unfolding bit-length
 numbers-refusal-requires c κs =
-    let head-limits = limits (c .before .before .before .before .before .before) in
-    omega (arith, c .row-length .ensures, head-limits, ends (c .before .before .before), c .before .before .before .bit-length .ensures)
+    let limits = head-facts _ (head-ok-here (c .before .before .before .before .before .before)) in
+    omega (arith, c .row-length .ensures, ends (c .before .before .before), c .before .before .before .bit-length .ensures)
 
 stub-ok : (c : tie.Else4) → 3 ≤ length (bytes-at (c .before .before .before .before .before))
 stub-ok c = c .before .before .before .before .before .before .before .before .if1 .left

@@ -7,7 +7,7 @@ use borrow.Author.Needs.{needs}
 use lib.Dec.{lit≤}
 use lib.ListN.{length, getD, take, drop}
 use Rattle.model.specs.Format.{number, filled-bits}
-use Rattle.model.proofs.Facts.{Facts, facts}
+use Rattle.model.proofs.Facts.{Facts, facts, accepted-head}
 use Rattle.codec.proofs.Fields.{field-next, field-fits, number-fits}
 use Rattle.codec.proofs.PlanBits.{length-filled, filled-at, bits-filled, byte-length-fits}
 use Rattle.codec.proofs.writing.byte.Statement.{statement}
@@ -52,9 +52,7 @@ mul-x : tie.Need-mul-x Inv-loop μ-loop
 mul-x c = omega (arith, turn c _ refl)
 
 add-bit : tie.Need-add-bit Inv-loop μ-loop
-add-bit c =
-    let limits = known (c .before) in
-    omega (arith, byte-length-fits (c .before .before .before .args .head) (limits .months-fit) (limits .sizes-fit))
+add-bit c = omega (arith, byte-length-fits _ (accepted-head _ _ (c .before .before .before .pre .0)))
 
 bit-requires : tie.Need-bit-requires Inv-loop μ-loop
 bit-requires c κs = search needs

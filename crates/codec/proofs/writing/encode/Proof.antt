@@ -5,7 +5,7 @@ use native.Mathlib.Omega.{arith}
 use borrow.Author.Needs.{needs}
 use lib.ListN.{length, length-set}
 use Rattle.model.specs.Format.{fields, filled-bits, bytes-of}
-use Rattle.model.proofs.Facts.{facts}
+use Rattle.model.proofs.Facts.{accepted-head}
 use Rattle.codec.proofs.Fields.{Filling, filling-none, filling-more, filling-done}
 use Rattle.codec.proofs.PlanBits.{byte-length-fits}
 use Rattle.codec.proofs.writing.encode.Statement.{statement}
@@ -21,9 +21,7 @@ loop-holds : tie.Need-loop-holds Inv-loop μ-loop
 loop-holds c = filling-none _ _ _
 
 mul-byte : tie.Need-mul-byte Inv-loop μ-loop
-mul-byte c =
-    let known = facts _ _ (c .before .before .before .before .pre .0) in
-    omega (arith, byte-length-fits (c .before .before .before .before .args .head) (known .months-fit) (known .sizes-fit))
+mul-byte c = omega (arith, byte-length-fits _ (accepted-head _ _ (c .before .before .before .before .pre .0)))
 
 byte-requires : tie.Need-byte-requires Inv-loop μ-loop
 byte-requires c κs = (c .before .before .before .before .pre .0, omega arith)

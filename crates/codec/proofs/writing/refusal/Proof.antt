@@ -6,7 +6,7 @@ use borrow.Author.Needs.{needs}
 use borrow.Author.Tests.{lt-ltb, le-ltb}
 use lib.Dec.{ltb}
 use Rattle.model.specs.Refusal.{Accepted, write-refusal}
-use Rattle.model.proofs.Facts.{facts}
+use Rattle.model.proofs.Facts.{accepted-head}
 use Rattle.codec.proofs.Refusals.{write-refused, write-room}
 use Rattle.codec.proofs.writing.refusal.Statement.{statement}
 use Rattle.codec.proofs.writing.refusal.Tie as tie
@@ -23,7 +23,7 @@ accepted : (c : tie.Else1) → Accepted (c .before .before .before .args .head) 
 accepted c = sym (c .before .plan-refusal .ensures) ∙ c .if1 .left
 
 byte-length-requires : tie.Need-byte-length-requires
-byte-length-requires c κs = let known = facts _ _ (accepted c) in (known .months-fit, known .sizes-fit)
+byte-length-requires c κs = accepted-head _ _ (accepted c)
 
 abbrev room-at : tie.After-byte-length → ℕ
 room-at c = c .before .before .before .before .args .room

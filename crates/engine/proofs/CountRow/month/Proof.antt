@@ -3,7 +3,7 @@ use Prim.Native.Nat.{_-_}
 use native.Mathlib.Omega.{arith}
 use Rattle.model.specs.Scale.{S, down, up}
 use Rattle.engine.specs.Counts.{rows-after}
-use Rattle.engine.proofs.MonthLaws.{down-by, up-by}
+use Rattle.month_rule.proofs.MonthLaws.{down-by, up-by}
 use Rattle.engine.proofs.CountLaws.{count-after-is}
 use borrow.Author.Needs.{needs}
 use Rattle.engine.proofs.CountRow.month.Statement.{statement}

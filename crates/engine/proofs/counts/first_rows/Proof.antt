@@ -1,8 +1,7 @@
 -- `first_rows` meets its contract, by computation.
 use mathlib.Core.Path.{refl}
 use Rattle.model.specs.Scale.{S}
-use Rattle.model.specs.CountRow.{no-months, counted, count-row}
-use Rattle.engine.specs.Rows.{tabulate}
+use Rattle.model.specs.CountRow.{no-months, counted, count-row, tabulate}
 use Rattle.engine.specs.Answers.{count-rows}
 use borrow.Author.Needs.{needs}
 use Rattle.engine.proofs.counts.first_rows.Statement.{statement}

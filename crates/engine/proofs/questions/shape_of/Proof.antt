@@ -4,7 +4,7 @@ use native.Mathlib.Omega.{arith}
 use borrow.Author.Tests.{ltb-false}
 use Rattle.model.specs.Limits.{max-claims, max-level}
 use Rattle.model.specs.Refusal.{outside}
-use Rattle.engine.specs.Shapes.{shape-of}
+use Rattle.engine.specs.Questions.{shape-of}
 use borrow.Author.Needs.{needs}
 use Rattle.engine.proofs.questions.shape_of.Statement.{statement}
 use Rattle.engine.proofs.questions.shape_of.Tie as tie

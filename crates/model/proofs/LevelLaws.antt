@@ -1,0 +1,34 @@
+-- Laws of the levels: a month adds something, and the largest level grows by it month by month.
+use mathlib.Core.Path.{_≡_}
+use Prim.Native.Nat.{ℕ, zero, suc, _+_, _*_, _<_, _≤_}
+use native.Mathlib.Nat.{mul-zero, mul-suc, mul-le-mul-left}
+use native.Mathlib.Omega.{arith}
+use Rattle.model.specs.Levels.{gain, largest-level}
+
+pub gain-some : 0 < gain
+unfolding gain
+gain-some = omega arith
+
+-- after no months, and after one month more
+pub level-start : (u : ℕ) → largest-level u 0 ≡ u
+unfolding largest-level
+level-start u = omega (arith, mul-zero gain)
+
+pub level-more : (u n : ℕ) → largest-level u (suc n) ≡ largest-level u n + gain
+unfolding largest-level
+level-more u n = omega (arith, mul-suc gain n)
+
+-- a later month's largest level is not below an earlier one's
+pub level-later : (u t n : ℕ) → t ≤ n → largest-level u t ≤ largest-level u n
+unfolding largest-level
+level-later u t n l = omega (arith, mul-le-mul-left gain l)
+
+-- a month more, from its gain on
+pub level-next : (u n : ℕ) → largest-level u (suc n) ≡ largest-level (u + gain) n
+unfolding largest-level
+level-next u n = omega (arith, mul-suc gain n)
+
+-- a fund that opens no lower is no lower
+pub level-from : (u v n : ℕ) → u ≤ v → (largest-level u n ≤ largest-level v n) × (v ≤ largest-level v n)
+unfolding largest-level
+level-from u v n l = (omega arith, omega arith)

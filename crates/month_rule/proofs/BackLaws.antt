@@ -1,0 +1,176 @@
+-- Laws of all rows going back one month, from the row with the most claims left on.
+use mathlib.Core.Path.{_≡_, refl, sym, _∙_, ap, ap₂, fun-ext}
+use mathlib.Core.Bool.{Bool, true, false}
+use mathlib.Core.Option.{none, some}
+use mathlib.Core.List.{List, [], _∷_}
+use Prim.Native.Nat.{ℕ, zero, suc, _+_, _*_, _-_, _≤_, zero-le, _<_}
+use native.Mathlib.Nat.{le-refl, suc-mul, sub-zero}
+use native.Mathlib.Numerals.{add-one}
+use native.Mathlib.Omega.{arith}
+use borrow.Author.Count.{below-more}
+use lib.ListN.{length, getD, take, drop}
+use lib.Seq.{take-length, getD-drop}
+use Rattle.model.specs.Scale.{Rounding}
+use Rattle.model.specs.Sums.{total}
+use Rattle.model.specs.Levels.{gain}
+use Rattle.model.specs.MonthRule.{Row, month, claimed-row}
+use Rattle.model.proofs.LevelLaws.{gain-some}
+use Rattle.model.proofs.Month.{claim-sum-none, claim-sum-zero}
+use Rattle.month_rule.specs.Rows.{from-top, Parts, round-by, own-sizes, after-claim-by}
+use Rattle.month_rule.proofs.RowLaws.{claim-sum-agree, row-before}
+use Rattle.month_rule.proofs.ManyRows.{rows-at, row-before-row}
+
+-- a month reads the level above by the gain of the quiet row, and the levels below that of the claimed row
+pub month-agree :
+    (round : Rounding) (F : List ℕ) (P : ℕ) (X Y X′ Y′ : Row) (s : ℕ) →
+    X (s + gain) ≡ X′ (s + gain) → ((k : ℕ) → k < s + gain → Y k ≡ Y′ k) → month round F P X Y s ≡ month round F P X′ Y′ s
+unfolding month
+month-agree round F P X Y X′ Y′ s ex ey = rw (ex, claim-sum-agree F Y Y′ (s + gain) (λ k a b. ey k b))
+
+-- the row with no claims left: where claims are counted, a claim adds nothing
+month-own :
+    (round : Rounding) (F : List ℕ) (P : ℕ) (X : Row) (rows : ℕ → Row) (counted : Bool) (s : ℕ) →
+    month round (take (own-sizes counted (length F)) F) P X (rows 0) s ≡ month round F P X (claimed-row rows (after-claim-by counted 0)) s
+unfolding month own-sizes after-claim-by claimed-row
+month-own round F P X rows true s =
+    rw (claim-sum-none (rows 0) (s + gain), claim-sum-agree F (claimed-row rows none) (λ _. 0) (s + gain) nothing, claim-sum-zero F (s + gain))
+  where
+    nothing : (k : ℕ) → 0 < k → k < s + gain → claimed-row rows none k ≡ 0
+    nothing k a b = refl
+month-own round F P X rows false s =
+    rw (take-length F) (month-agree round F P X (rows 0) X (claimed-row rows (some 0)) s refl same)
+  where
+    same : (k : ℕ) → k < s + gain → rows 0 k ≡ claimed-row rows (some 0) k
+    same k l = refl
+
+pub own-sizes-le : (counted : Bool) (sizes : ℕ) → own-sizes counted sizes ≤ sizes
+unfolding own-sizes
+own-sizes-le true sizes = zero-le
+own-sizes-le false sizes = le-refl sizes
+
+pub total-take-le : (n : ℕ) (F : List ℕ) → total (take n F) ≤ total F
+unfolding total
+total-take-le zero F = zero-le
+total-take-le (suc n) [] = zero-le
+total-take-le (suc n) (f ∷ F) = omega (arith, total-take-le n F)
+
+-- the rows before a month by the claims left, from those after it
+abbrev pub rows-before : ℕ → List ℕ → ℕ → Bool → (ℕ → Row) → ℕ → Row
+rows-before bias F P counted rows k = month (round-by bias) F P (rows k) (claimed-row rows (after-claim-by counted k))
+
+-- a row with claims left: a claim leads to the row with one fewer
+claimed-next : (rows : ℕ → Row) (counted : Bool) (k : ℕ) → claimed-row rows (after-claim-by counted (suc k)) ≡ rows k
+unfolding claimed-row after-claim-by
+claimed-next rows counted k = fun-ext (λ s. refl)
+
+-- what lies from an index on is as it was, so a row there is
+row-same :
+    (top a b : ℕ) (rows old : List ℕ) → a ≤ b → ((k : ℕ) → a ≤ k → getD rows k 0 ≡ getD old k 0) → from-top top (drop b rows) ≡ from-top top (drop b old)
+row-same top a b rows old l h =
+    fun-ext (λ s. getD-drop b rows (top - s) 0 ∙ h (b + (top - s)) (omega arith) ∙ sym (getD-drop b old (top - s) 0))
+
+-- the rows by the claims left, where row `last` has none: `values-in` of a shape
+abbrev pub rows-left : ℕ → ℕ → ℕ → List ℕ → ℕ → Row
+rows-left last width top xs k = from-top top (drop ((last - k) * width) xs)
+
+-- Rows taken back one after the other, from the first: `done` of the rows before row j, by the claims left and the level, `rest` from it on.
+pub record GoingBack (last width live : ℕ) (new : ℕ → Row) (old rows : List ℕ) (j : ℕ) : Type 0 where
+  pub same-length : length rows ≡ length old
+  pub parts : Parts rows
+  pub done : (i : ℕ) → i < j → (p : ℕ) → p < live → rows-at width rows i p ≡ new (last - i) (live - 1 - p)
+  pub rest : (k : ℕ) → j * width ≤ k → getD rows k 0 ≡ getD old k 0
+
+pub going-back-start : (last width live : ℕ) (new : ℕ → Row) (old : List ℕ) → Parts old → GoingBack last width live new old old 0
+going-back-start last width live new old h =
+    record { same-length = refl; parts = h; done = λ i l p b. absurd (omega arith); rest = λ k l. refl }
+
+-- one row more, whose new places are known
+going-back-row :
+    (last width live : ℕ) → live ≤ width → (new : ℕ → Row) (old rows rows′ : List ℕ) (j : ℕ) → GoingBack last width live new old rows j →
+    length rows′ ≡ length rows → Parts rows′ →
+    ((p : ℕ) → p < live → getD rows′ (j * width + p) 0 ≡ new (last - j) (live - 1 - p)) →
+    ((k : ℕ) → k < j * width → getD rows′ k 0 ≡ getD rows k 0) →
+    ((k : ℕ) → j * width + live ≤ k → getD rows′ k 0 ≡ getD rows k 0) →
+    GoingBack last width live new old rows′ (j + 1)
+going-back-row last width live lw new old rows′₀ rows′ j h n parts here before after =
+    record {
+      same-length = n ∙ h .same-length;
+      parts = parts;
+      done =
+          below-more (λ (i : ℕ). (p : ℕ) → p < live → rows-at width rows′ i p ≡ new (last - i) (live - 1 - p)) j passed
+          (λ p l. getD-drop (j * width) rows′ p 0 ∙ here p l);
+      rest = λ k l. after k (omega (arith, next)) ∙ h .rest k (omega (arith, next));
+    }
+  where
+    next : (j + 1) * width ≡ j * width + width
+    next = rw (add-one, suc-mul)
+
+    passed : (i : ℕ) → i < j → (p : ℕ) → p < live → rows-at width rows′ i p ≡ new (last - i) (live - 1 - p)
+    passed i b p l =
+        getD-drop (i * width) rows′ p 0
+        ∙ before (i * width + p) (row-before-row i j width p b (omega arith))
+        ∙ sym (getD-drop (i * width) rows′₀ p 0)
+        ∙ h .done i b p l
+
+module _ (last width : ℕ) (counted : Bool) (top live : ℕ) (levels : live + gain ≡ top + 1) (fits : top < width) (old F : List ℕ) (P bias : ℕ) where
+  abbrev new : ℕ → Row
+  new = rows-before bias F P counted (rows-left last width top old)
+
+  -- a row with claims left: a claim leads to the next row
+  pub going-back-turn :
+      (rows : List ℕ) (j : ℕ) → j < last → GoingBack last width live new old rows j →
+      (rows′ : List ℕ) → length rows′ ≡ length rows → Parts rows′ →
+      ((p : ℕ) → p < live →
+      getD rows′ (j * width + p) 0 ≡ row-before bias F P (j * width) (j * width + width) top live rows p) →
+      ((k : ℕ) → k < j * width → getD rows′ k 0 ≡ getD rows k 0) →
+      ((k : ℕ) → j * width + live ≤ k → getD rows′ k 0 ≡ getD rows k 0) →
+      GoingBack last width live new old rows′ (j + 1)
+  going-back-turn rows j l h rows′ n parts here before after =
+      going-back-row last width live (omega (arith, gain-some)) new old rows rows′ j h n parts (λ p m. here p m ∙ same p) before after
+    where
+      own : last - j ≡ suc (last - 1 - j)
+      own = omega arith
+
+      this : last - suc (last - 1 - j) ≡ j
+      this = omega arith
+
+      next : (last - (last - 1 - j)) * width ≡ j * width + width
+      next = ap (λ (i : ℕ). i * width) (omega arith) ∙ suc-mul j width
+
+      same : (p : ℕ) → row-before bias F P (j * width) (j * width + width) top live rows p ≡ new (last - j) (live - 1 - p)
+      same p =
+          rw (own, claimed-next (rows-left last width top old) counted (last - 1 - j), this, next, row-same top (j * width) (j * width) rows old (omega arith) (h .rest))
+          (ap (λ (Y : Row). month (round-by bias) F P (from-top top (drop (j * width) old)) Y (live - 1 - p))
+          (row-same top (j * width) (j * width + width) rows old (omega arith) (h .rest)))
+
+  -- the row with no claims left, the last one
+  pub going-back-end :
+      (rows : List ℕ) → GoingBack last width live new old rows last →
+      (own : ℕ) → own ≡ own-sizes counted (length F) →
+      (rows′ : List ℕ) → length rows′ ≡ length rows → Parts rows′ →
+      ((p : ℕ) → p < live → getD rows′ (last * width + p) 0 ≡ row-before bias (take own F) P (last * width) (last * width) top live rows p) →
+      ((k : ℕ) → k < last * width → getD rows′ k 0 ≡ getD rows k 0) →
+      ((k : ℕ) → last * width + live ≤ k → getD rows′ k 0 ≡ getD rows k 0) →
+      GoingBack last width live new old rows′ (last + 1)
+  going-back-end rows h own eo rows′ n parts here before after =
+      going-back-row last width live (omega (arith, gain-some)) new old rows rows′ last h n parts (λ p m. here p m ∙ same p) before after
+    where
+      none : last - last ≡ 0
+      none = omega arith
+
+      own-row : rows-left last width top old 0 ≡ from-top top (drop (last * width) old)
+      own-row = rw (sub-zero last)
+
+      same : (p : ℕ) → row-before bias (take own F) P (last * width) (last * width) top live rows p ≡ new (last - last) (live - 1 - p)
+      same p =
+          rw (none, eo, row-same top (last * width) (last * width) rows old (omega arith) (h .rest))
+          (rw (← own-row) (month-own (round-by bias) F P (rows-left last width top old 0) (rows-left last width top old) counted (live - 1 - p)))
+
+  -- all rows, by the claims left and the level
+  pub going-back-done :
+      (rows : List ℕ) (j : ℕ) → last < j → GoingBack last width live new old rows j →
+      (k : ℕ) → k ≤ last → (s : ℕ) → s + gain ≤ top → rows-left last width (top - gain) rows k s ≡ new k s
+  going-back-done rows j all h k l s m =
+      let claims : last - (last - k) ≡ k = omega arith in
+      let level : live - 1 - (top - gain - s) ≡ s = omega arith in
+      h .done (last - k) (omega arith) (top - gain - s) (omega arith) ∙ ap₂ new claims level

@@ -1,0 +1,12 @@
+-- Laws that the functions' proofs cite.
+-- one value
+pub mod MonthLaws
+-- one row in memory, its forbidden levels, and several rows of one width
+pub mod RowLaws
+mod ForbidLaws
+pub mod ManyRows
+-- all rows through one month, and through all months
+mod BackLaws
+pub mod MonthsLaws
+-- the two halves of a workspace
+mod HalfLaws

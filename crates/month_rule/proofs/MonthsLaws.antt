@@ -1,0 +1,127 @@
+-- Laws of all months: rules that agree on the rows and levels in memory have equal values there, and one month on top of the months after it.
+use mathlib.Core.Path.{_≡_, refl, sym, _∙_, ap, ap₂}
+use mathlib.Core.Bool.{Bool, true, false, cond}
+use mathlib.Core.List.{List, [], _∷_}
+use Prim.Native.Nat.{ℕ, zero, suc, _+_, _-_, _≤_, _<_}
+use native.Mathlib.Nat.{zero-mul}
+use native.Mathlib.Omega.{arith}
+use lib.ListN.{length, getD, take, drop}
+use lib.Seq.{take-all}
+use Rattle.model.specs.Scale.{Rounding}
+use Rattle.model.specs.Levels.{gain, largest-level}
+use Rattle.model.specs.MonthRule.{Row, Rule, month, kept, claimed-row, month-back, values}
+use Rattle.model.proofs.LevelLaws.{level-start, level-next, level-from}
+use Rattle.month_rule.specs.declared.rows.Shape.{Shape}
+use Rattle.month_rule.specs.Rows.{after-claim-by}
+use Rattle.month_rule.specs.Shapes.{values-in, rule-by, TakenBack}
+use Rattle.month_rule.proofs.BackLaws.{month-agree}
+
+-- two rules that agree on the first rows, up to a level
+pub record Agree (q q′ : Rule) (count top : ℕ) : Type 0 where
+  pub claimed :
+      (j : ℕ) → j < count → (X X′ : ℕ → Row) (k : ℕ) → ((i : ℕ) → i < count → X i k ≡ X′ i k) →
+      claimed-row X (q .after-claim j) k ≡ claimed-row X′ (q′ .after-claim j) k
+  pub allowed : (s : ℕ) → s ≤ top → q .allowed s ≡ q′ .allowed s
+
+-- a month of two such rules, over rows that agree
+pub month-back-agree :
+    (round : Rounding) (F : List ℕ) (q q′ : Rule) (count top : ℕ) → Agree q q′ count top → (P : ℕ) (N N′ : ℕ → Row) (level : ℕ) → level ≤ top →
+    ((i : ℕ) → i < count → (s : ℕ) → s ≤ level → N i s ≡ N′ i s) →
+    (k : ℕ) → k < count → (s : ℕ) → s + gain ≤ level → month-back (month round F) q P N k s ≡ month-back (month round F) q′ P N′ k s
+unfolding month-back kept
+month-back-agree round F q q′ count top a P N N′ level l h k b s m =
+    month-agree round F P (kept (q .allowed) (N k)) (claimed-row (λ j. kept (q .allowed) (N j)) (q .after-claim k)) (kept (q′ .allowed) (N′ k))
+    (claimed-row (λ j. kept (q′ .allowed) (N′ j)) (q′ .after-claim k)) s
+    (same k b (s + gain) m)
+    (λ r c. a .claimed k b (λ j. kept (q .allowed) (N j)) (λ j. kept (q′ .allowed) (N′ j)) r (λ i d. same i d r (omega arith)))
+  where
+    same : (i : ℕ) → i < count → (r : ℕ) → r ≤ level → kept (q .allowed) (N i) r ≡ kept (q′ .allowed) (N′ i) r
+    same i d r c = ap₂ (λ (t : Bool) (v : ℕ). cond t v 0) (a .allowed r (omega arith)) (h i d r c)
+
+-- and all months
+pub values-agree :
+    (round : Rounding) (F : List ℕ) (q q′ : Rule) (count top : ℕ) → Agree q q′ count top →
+    (last last′ : ℕ → Row) → ((j : ℕ) → j < count → (s : ℕ) → s ≤ top → last j s ≡ last′ j s) →
+    (Ps : List ℕ) (j s : ℕ) → j < count → largest-level s (length Ps) ≤ top →
+    values (month round F) q last Ps j s ≡ values (month round F) q′ last′ Ps j s
+unfolding values
+values-agree round F q q′ count top a last last′ h [] j s l m = h j l s (omega (arith, level-start s))
+values-agree round F q q′ count top a last last′ h (P ∷ Ps) j s l m =
+    month-back-agree round F q q′ count top a P (values (month round F) q last Ps) (values (month round F) q′ last′ Ps) (s + gain)
+    (omega (arith, level-next s (length Ps), level-from (s + gain) (s + gain) (length Ps) (omega arith)))
+    (λ i b r c. values-agree round F q q′ count top a last last′ h Ps i r b (omega (arith, level-next s (length Ps), level-from r (s + gain) (length Ps) c)))
+    j l s (omega arith)
+
+-- a shape's rule agrees with itself: a claim leads to one of its rows
+shape-agrees : (shape : Shape) (top : ℕ) → Agree (rule-by shape) (rule-by shape) (shape .rows) top
+unfolding rule-by claimed-row after-claim-by
+shape-agrees shape top = record { claimed = claimed-agree (shape .counted) (shape .rows); allowed = λ s l. refl }
+  where
+    claimed-agree :
+        (counted : Bool) (count j : ℕ) → j < count → (X X′ : ℕ → Row) (k : ℕ) → ((i : ℕ) → i < count → X i k ≡ X′ i k) →
+        claimed-row X (after-claim-by counted j) k ≡ claimed-row X′ (after-claim-by counted j) k
+    claimed-agree true count zero l X X′ k h = refl
+    claimed-agree false count zero l X X′ k h = h 0 l
+    claimed-agree counted count (suc j) l X X′ k h = h j (omega arith)
+
+-- the rows after a month: those that lie forbidden in memory, taken back
+pub month-forbidden :
+    (round : Rounding) (F : List ℕ) (shape : Shape) (top P : ℕ) (N X : ℕ → Row) →
+    ((k : ℕ) → k < shape .rows → (s : ℕ) → s ≤ top → X k s ≡ kept (rule-by shape .allowed) (N k) s) →
+    (k : ℕ) → k < shape .rows → (s : ℕ) → s + gain ≤ top →
+    month round F P (X k) (claimed-row X (rule-by shape .after-claim k)) s ≡ month-back (month round F) (rule-by shape) P N k s
+unfolding month-back
+month-forbidden round F shape top P N X h k l s m =
+    month-agree round F P (X k) (claimed-row X (rule-by shape .after-claim k)) (kept (rule-by shape .allowed) (N k))
+    (claimed-row (λ j. kept (rule-by shape .allowed) (N j)) (rule-by shape .after-claim k)) s
+    (h k l (s + gain) m)
+    (λ r c. shape-agrees shape top .claimed k l X (λ j. kept (rule-by shape .allowed) (N j)) r (λ i d. h i d r (omega arith)))
+
+-- no months, and one month on top of the months after it
+pub taken-back-none : (round : Rounding) (F : List ℕ) (shape : Shape) (opening : ℕ) (rows : List ℕ) → TakenBack round F shape opening [] rows rows
+unfolding values
+taken-back-none round F shape opening rows = record { each = λ k l s m. rw (level-start opening) }
+
+pub taken-back-more :
+    (round : Rounding) (F : List ℕ) (shape : Shape) (opening P : ℕ) (Ps before mid after : List ℕ) →
+    TakenBack round F shape (opening + gain) Ps before mid →
+    ((k : ℕ) → k < shape .rows → (s : ℕ) → s + gain ≤ opening + gain →
+    values-in shape (opening + gain - gain) after k s ≡ month-back (month round F) (rule-by shape) P (values-in shape (opening + gain) mid) k s) →
+    TakenBack round F shape opening (P ∷ Ps) before after
+unfolding values
+taken-back-more round F shape opening P Ps before mid after h back =
+    record {
+      each =
+          λ k l s m.
+          let same : opening + gain - gain ≡ opening = omega arith in
+          rw (level-next opening (length Ps))
+          (rw same at (back k l s (omega arith))
+          ∙ month-back-agree round F (rule-by shape) (rule-by shape) (shape .rows) (opening + gain) (shape-agrees shape (opening + gain)) P
+          (values-in shape (opening + gain) mid) (values (month round F) (rule-by shape) (values-in shape (largest-level (opening + gain) (length Ps)) before) Ps)
+          (opening + gain) (omega arith) (h .each) k l s (omega arith));
+    }
+
+pub no-chances : (Ps : List ℕ) → length Ps < 1 → Ps ≡ []
+no-chances [] l = refl
+no-chances (P ∷ Ps) l = absurd (omega arith)
+
+-- the first chance and those of the other months, as a part of the list
+pub first-and-rest : (Ps : List ℕ) → 0 < length Ps → Ps ≡ getD Ps 0 0 ∷ take (length Ps - 1) (drop 1 Ps)
+first-and-rest [] l = absurd (omega arith)
+first-and-rest (P ∷ Ps) l = ap (λ (Qs : List ℕ). P ∷ Qs) (sym (take-all (suc (length Ps) - 1) Ps (omega arith)))
+
+-- the value at the opening with all claims to place stands at the first place of all
+pub taken-value :
+    (round : Rounding) (F : List ℕ) (shape : Shape) (opening : ℕ) (Ps before after : List ℕ) → TakenBack round F shape opening Ps before after →
+    0 < shape .rows → (last : ℕ → Row) →
+    ((k : ℕ) → k < shape .rows → (s : ℕ) → s ≤ largest-level opening (length Ps) → values-in shape (largest-level opening (length Ps)) before k s ≡ last k s) →
+    getD after 0 0 ≡ values (month round F) (rule-by shape) last Ps (shape .rows - 1) opening
+taken-value round F shape opening Ps before after h some-row last same =
+    let row : shape .rows - 1 - (shape .rows - 1) ≡ 0 = omega arith in
+    let place : opening - opening ≡ 0 = omega arith in
+    let here : values-in shape opening after (shape .rows - 1) opening ≡ getD after 0 0 = rw (row, place, zero-mul) in
+    let top : ℕ = largest-level opening (length Ps) in
+    sym here
+    ∙ h .each (shape .rows - 1) (omega arith) opening (omega arith)
+    ∙ values-agree round F (rule-by shape) (rule-by shape) (shape .rows) top (shape-agrees shape top) (values-in shape top before) last same Ps
+    (shape .rows - 1) opening (omega arith) (omega arith)

@@ -1,0 +1,66 @@
+-- `forbid` meets its contract: the two ends as they come back from `fill` (`forbidden`).
+use native.Mathlib.Omega.{arith}
+use borrow.Author.Needs.{needs}
+use lib.ListN.{length-take}
+use Rattle.month_rule.proofs.ForbidLaws.{forbidden}
+use Rattle.month_rule.proofs.rows.forbid.Statement.{statement}
+use Rattle.month_rule.proofs.rows.forbid.Tie as tie
+
+lesser-requires : tie.Need-lesser-requires
+lesser-requires c κs = search needs
+
+slice-relend-prefix-fill : tie.Need-slice-relend-prefix-fill
+slice-relend-prefix-fill c = search needs
+
+slice-aggregate-fill : tie.Need-slice-aggregate-fill
+slice-aggregate-fill c = simp length-take (omega arith)
+
+fill-requires : tie.Need-fill-requires
+fill-requires c κs = search needs
+
+lesser-requires-2 : tie.Need-lesser-requires-2
+lesser-requires-2 c κs = search needs
+
+mul-fill : tie.Need-mul-fill
+mul-fill c = search needs
+
+sub-fill : tie.Need-sub-fill
+sub-fill c = search needs
+
+part-fill-start : tie.Need-part-fill-start
+part-fill-start c = search needs
+
+part-fill-end : tie.Need-part-fill-end
+part-fill-end c = search needs
+
+fill-requires-2 : tie.Need-fill-requires-2
+fill-requires-2 c κs = search needs
+
+same-length : tie.Need-same-length
+same-length c = search needs
+
+returns : tie.Need-returns
+returns c =
+    let a = c .before .before .before .before .before .before .before .before .before .before .before .args in
+    let first = c .before .before .before .before .before .before .before .before .before .lesser in
+    let last = c .before .before .before .before .lesser2 in
+    let front = c .before .before .before .before .before .before .before .fill in
+    forbidden (a .row .now) (front .last .0) (c .before .before .fill2 .last .0) (a .first) (a .last) (first .result) (last .result)
+    (first .ensures) (front .ensures) (last .ensures) (c .before .before .fill2 .ensures)
+
+pub forbid-spec : {M : Type 1} → statement M
+forbid-spec =
+    tie.close
+    (tie.spec
+    lesser-requires
+    slice-relend-prefix-fill
+    slice-aggregate-fill
+    fill-requires
+    lesser-requires-2
+    mul-fill
+    sub-fill
+    part-fill-start
+    part-fill-end
+    fill-requires-2
+    same-length
+    returns)

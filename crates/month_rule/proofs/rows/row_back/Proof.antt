@@ -1,0 +1,170 @@
+-- `row_back` meets its contract. The invariant: the places passed are new and the rest is old (`Rewriting`).
+use mathlib.Core.Path.{_≡_, refl, _∙_}
+use Prim.Native.Nat.{_+_, _*_, _-_, _<_, _≤_}
+use native.Mathlib.Omega.{arith}
+use borrow.Author.Needs.{needs}
+use lib.ListN.{length, drop}
+use lib.Seq.{getD-drop}
+use Rattle.model.specs.Scale.{S}
+use Rattle.model.specs.MonthRule.{claim-sum}
+use Rattle.model.proofs.LevelLaws.{gain-some}
+use Rattle.month_rule.specs.Rows.{from-top}
+use Rattle.month_rule.proofs.MonthLaws.{claim-sum-fits, value-le}
+use Rattle.month_rule.proofs.RowLaws.{parts-part, row-before, Rewriting, rewriting-start, rewriting-turn, sum-beyond, value-before}
+use Rattle.month_rule.proofs.rows.row_back.Statement.{statement}
+use Rattle.month_rule.proofs.rows.row_back.Tie as tie
+
+abbrev Inv-loop : tie.InvT-loop
+Inv-loop rows₀ quiet claimed top live severity chance bias end i₀ rows i = (i ≤ live) × Rewriting rows₀ quiet (row-before bias severity chance quiet claimed top live rows₀) rows i
+
+abbrev μ-loop : tie.MeasureT-loop
+μ-loop rows₀ quiet claimed top live severity chance bias end i₀ rows i = live - i
+
+add-end : tie.Need-add-end Inv-loop μ-loop
+add-end c = omega arith
+
+loop-holds : tie.Need-loop-holds Inv-loop μ-loop
+loop-holds c =
+    let start = c .before .before in
+    (omega arith, rewriting-start (start .args .rows .now) (start .args .quiet) _ (start .pre .1 .0))
+
+abbrev at-loop : tie.In-loop Inv-loop μ-loop → tie.At-loop Inv-loop μ-loop
+at-loop c = c .before
+
+abbrev start : tie.At-loop Inv-loop μ-loop → tie.Start Inv-loop μ-loop
+start c = c .before .before .before
+
+-- the places that a turn touches lie within the rows
+inside :
+    (c : tie.In-loop Inv-loop μ-loop) →
+    let a = start (at-loop c) .args in
+    let i = at-loop c .loop .i in
+    (i < a .top) × (a .claimed + a .top ≤ length (at-loop c .loop .rows)) × (a .quiet ≤ a .claimed)
+inside c =
+    let from = start (at-loop c) in
+    (omega (arith, gain-some), omega (arith, at-loop c .loop .inv .1 .same-length, from .pre .0 .2), from .pre .0 .0)
+
+add-next : tie.Need-add-next Inv-loop μ-loop
+add-next c = omega (arith, inside c)
+
+add-next-2 : tie.Need-add-next-2 Inv-loop μ-loop
+add-next-2 c = omega (arith, inside c)
+
+mul-claim-sum : tie.Need-mul-claim-sum Inv-loop μ-loop
+mul-claim-sum c = omega (arith, inside c)
+
+sub-claim-sum : tie.Need-sub-claim-sum Inv-loop μ-loop
+sub-claim-sum c = omega (arith, inside c)
+
+part-claim-sum-start : tie.Need-part-claim-sum-start Inv-loop μ-loop
+part-claim-sum-start c = omega (arith, inside (c .before))
+
+part-claim-sum-end : tie.Need-part-claim-sum-end Inv-loop μ-loop
+part-claim-sum-end c = omega (arith, inside (c .before))
+
+claim-sum-requires : tie.Need-claim-sum-requires Inv-loop μ-loop
+claim-sum-requires c κs =
+    let loop = at-loop (c .before .before) .loop in
+    let from = start (at-loop (c .before .before)) in
+    let next = from .args .claimed + loop .i + 1 in
+    (parts-part (loop .rows) next (from .args .claimed + from .args .top - next) (loop .inv .1 .parts), from .pre .1 .1 .0)
+
+abbrev turn : tie.After-claim-sum Inv-loop μ-loop → tie.In-loop Inv-loop μ-loop
+turn c = c .before .before .before
+
+-- the claim sum of a turn is over the old row, and fits
+sum-is :
+    (c : tie.After-claim-sum Inv-loop μ-loop) →
+    let a = start (at-loop (turn c)) .args in
+    c .claim-sum .result ≡ claim-sum (a .severity .now) (from-top (a .top) (drop (a .claimed) (a .rows .now))) (a .top - at-loop (turn c) .loop .i)
+sum-is c =
+    let from = start (at-loop (turn c)) in
+    let a = from .args in
+    let loop = at-loop (turn c) .loop in
+    c .claim-sum .ensures
+    ∙ sum-beyond (a .rows .now) (a .severity .now) (a .quiet) (a .claimed) (a .top) (a .live) (a .chance) (a .bias) (from .pre .0 .0) (from .pre .0 .1)
+    (loop .rows) (loop .i) (omega arith) (inside (turn c) .1) (loop .inv .1) _ _ refl refl
+
+sum-fits : (c : tie.After-claim-sum Inv-loop μ-loop) → c .claim-sum .result ≤ S * S
+sum-fits c =
+    let from = start (at-loop (turn c)) in
+    rw (sum-is c)
+    (claim-sum-fits (from .args .severity .now) _ (from .pre .1 .1 .0) (λ s. rw getD-drop (from .pre .1 .0 .each _)) _)
+
+add-place : tie.Need-add-place Inv-loop μ-loop
+add-place c = omega (arith, inside (turn c))
+
+mul-month-value : tie.Need-mul-month-value Inv-loop μ-loop
+mul-month-value c = omega (arith, inside (turn c))
+
+slice-read-month-value : tie.Need-slice-read-month-value Inv-loop μ-loop
+slice-read-month-value c = omega (arith, inside (turn (c .before)))
+
+month-value-requires : tie.Need-month-value-requires Inv-loop μ-loop
+month-value-requires c κs =
+    let from = start (at-loop (turn (c .before))) in
+    let loop = at-loop (turn (c .before)) .loop in
+    (from .pre .1 .1 .1 .0, loop .inv .1 .parts .each _, sum-fits (c .before), from .pre .1 .1 .1 .1)
+
+mul-rows : tie.Need-mul-rows Inv-loop μ-loop
+mul-rows c = omega (arith, inside (turn (c .before .before)))
+
+slice-write-rows : tie.Need-slice-write-rows Inv-loop μ-loop
+slice-write-rows c = omega (arith, inside (turn (c .before .before)))
+
+add-i : tie.Need-add-i Inv-loop μ-loop
+add-i c = omega (arith, inside (turn (c .before .before)))
+
+loop-less : tie.Need-loop-less Inv-loop μ-loop
+loop-less c = omega arith
+
+loop-again : tie.Need-loop-again Inv-loop μ-loop
+loop-again c =
+    let read = c .before .before in
+    let loop = at-loop (turn read) .loop in
+    let from = start (at-loop (turn read)) in
+    let a = from .args in (
+      omega arith,
+      rewriting-turn (a .rows .now) (a .quiet) _ (loop .rows) (loop .i) (c .month-value .result) (loop .inv .1) (omega (arith, inside (turn read)))
+          (c .month-value .ensures
+          ∙ value-before (a .rows .now) (a .severity .now) (a .quiet) (a .claimed) (a .top) (a .live) (a .chance) (a .bias) (from .pre .0 .0) (from .pre .0 .1)
+          (loop .i) _ (read .claim-sum .result) (omega arith) (loop .inv .1 .after _ (omega arith)) (sum-is read))
+          (rw (c .month-value .ensures)
+          (value-le (a .chance) _ (read .claim-sum .result) (a .bias) (from .pre .1 .1 .1 .0) (loop .inv .1 .parts .each _) (sum-fits read)
+          (from .pre .1 .1 .1 .1))),
+    )
+
+same-length : tie.Need-same-length Inv-loop μ-loop
+same-length c = c .before .loop .inv .1 .same-length
+
+returns : tie.Need-returns Inv-loop μ-loop
+returns c =
+    let inv = c .before .loop .inv .1 in
+    (λ i l. inv .done i (omega arith), (inv .before, ((λ k l. inv .after k (omega arith)), inv .parts)))
+
+pub row-back-spec : {M : Type 1} → statement M
+row-back-spec =
+    tie.close
+    (tie.spec
+    Inv-loop
+    μ-loop
+    add-end
+    loop-holds
+    add-next
+    add-next-2
+    mul-claim-sum
+    sub-claim-sum
+    part-claim-sum-start
+    part-claim-sum-end
+    claim-sum-requires
+    add-place
+    mul-month-value
+    slice-read-month-value
+    month-value-requires
+    mul-rows
+    slice-write-rows
+    add-i
+    loop-less
+    loop-again
+    same-length
+    returns)

@@ -1,0 +1,38 @@
+-- Rows of values in memory, and the words of the contracts on them.
+use Prim.Native.Nat.{ℕ, zero, suc, _+_, _-_, _*_, _/_, _≤_}
+use mathlib.Core.Bool.{Bool, _&&_, cond}
+use mathlib.Core.List.{List}
+use mathlib.Core.Option.{Option, none, some}
+use lib.Dec.{leb, ltb}
+use lib.ListN.{getD, drop}
+use Rattle.model.specs.Scale.{S, Rounding}
+use Rattle.model.specs.MonthRule.{Row}
+
+-- a list as a row: the index is the place
+abbrev pub at : List ℕ → Row
+at xs i = getD xs i 0
+
+-- A list as a row of levels. The place is what has been paid in claims: place i holds the level i below the largest, `top`.
+abbrev pub from-top : ℕ → List ℕ → Row
+from-top top xs s = getD xs (top - s) 0
+
+-- every number is at most S
+pub record Parts (xs : List ℕ) : Type 0 where
+  pub each : (k : ℕ) → getD xs k 0 ≤ S
+
+-- a division by S that rounds down at bias 0 and up at bias S − 1
+unfoldable pub round-by : ℕ → Rounding
+round-by bias x = (x + bias) / S
+
+-- the numbers from low on and below above
+unfoldable pub between : ℕ → ℕ → ℕ → Bool
+between low above s = leb low s && ltb s above
+
+-- The claims left after one more claim. Where claims are not counted there is one row, which every claim comes back to.
+unfoldable pub after-claim-by : Bool → ℕ → Option ℕ
+after-claim-by counted zero = cond counted none (some 0)
+after-claim-by counted (suc k) = some k
+
+-- the sizes that a claim may have in the row with no claims left
+unfoldable pub own-sizes : Bool → ℕ → ℕ
+own-sizes counted sizes = cond counted 0 sizes

@@ -1,0 +1,98 @@
+// The workspace of a question: two halves with the same rows, the first for the lower bounds and the second for the upper. Whatever last rows the
+// halves hold, the walk back through the months is this one.
+ghost use mathlib.Core.Path.{_≡_};
+ghost use Prim.Native.Nat.{ℕ, _+_, _*_, _<_, _≤_};
+ghost use lib.ListN.{length, getD, take, drop, replicate};
+ghost use Rattle.model.specs.Scale.{S, down, up};
+ghost use Rattle.model.specs.Sums.{total};
+ghost use Rattle.model.specs.Levels.{largest-level};
+ghost use Rattle.model.specs.MonthRule.{all-placed};
+ghost use Rattle.month_rule.specs.Rows.{Parts};
+ghost use Rattle.month_rule.specs.Shapes.{rows-size, values-in, TakenBack};
+use crate::month::ROUND_DOWN;
+use crate::month::ROUND_UP;
+use crate::months::months_back;
+use crate::rows::Shape;
+use crate::rows::fill;
+
+// A lower and an upper bound in parts of S.
+pub struct Bounds {
+    pub lower: u32,
+    pub upper: u32,
+}
+
+// The rows after the last month in one half: S with no claims left, and 0 otherwise.
+fn last_rows(rows: &mut [u32], shape: Shape)
+    requires { ⌜ (0 < shape .rows) × (length (now rows) ≡ rows-size shape) ⌝ }
+    ensures filled { λ _.
+        ⌜ ((top : ℕ) → top < shape .width → (k : ℕ) → k < shape .rows → (s : ℕ) → values-in shape top (now (rows .exit)) k s ≡ all-placed k s) ⌝ }
+    ensures parts { λ _. ⌜ Parts (now (rows .exit)) ⌝ }
+{
+    let start = (shape.rows - 1) * shape.width;
+    fill(rows, 0);
+    fill(&mut rows[start..], model::SCALE);
+}
+
+// The same in both halves.
+pub fn last_halves(halves: &mut [u32], shape: Shape)
+    requires { ⌜ (0 < shape .rows) × (length (now halves) ≡ 2 * rows-size shape) ⌝ }
+    ensures lower { λ _.
+        ⌜ ((top : ℕ) → top < shape .width → (k : ℕ) → k < shape .rows → (s : ℕ) →
+        values-in shape top (take (rows-size shape) (now (halves .exit))) k s ≡ all-placed k s) ⌝ }
+    ensures upper { λ _.
+        ⌜ ((top : ℕ) → top < shape .width → (k : ℕ) → k < shape .rows → (s : ℕ) →
+        values-in shape top (drop (rows-size shape) (now (halves .exit))) k s ≡ all-placed k s) ⌝ }
+    ensures parts { λ _. ⌜ Parts (now (halves .exit)) ⌝ }
+{
+    let half = shape.rows * shape.width;
+    last_rows(&mut halves[..half], shape);
+    last_rows(&mut halves[half..], shape);
+}
+
+// Both halves back through the months, the first rounded down and the second up.
+pub fn halves_back(
+    halves: &mut [u32],
+    shape: Shape,
+    opening: usize,
+    chances: &[u32],
+    severity: &[u32],
+)
+    requires { ⌜ (0 < shape .rows) × (largest-level opening (length (now chances)) < shape .width) × (length (now halves) ≡ 2 * rows-size shape) ⌝ }
+    requires { ⌜ Parts (now halves) ⌝ }
+    requires { ⌜ Parts (now chances) ⌝ }
+    requires { ⌜ total (now severity) ≤ S ⌝ }
+    ensures lower { λ _.
+        ⌜ TakenBack down (now (severity .entry)) shape opening (now (chances .entry)) (take (rows-size shape) (now (halves .entry))) (take (rows-size shape) (now (halves .exit))) ⌝ }
+    ensures upper { λ _.
+        ⌜ TakenBack up (now (severity .entry)) shape opening (now (chances .entry)) (drop (rows-size shape) (now (halves .entry))) (drop (rows-size shape) (now (halves .exit))) ⌝ }
+{
+    let half = shape.rows * shape.width;
+    months_back(
+        &mut halves[..half],
+        shape,
+        opening,
+        chances,
+        severity,
+        ROUND_DOWN,
+    );
+    months_back(
+        &mut halves[half..],
+        shape,
+        opening,
+        chances,
+        severity,
+        ROUND_UP,
+    );
+}
+
+// The bounds that the halves hold at their first places, with all of them 0 again.
+pub fn take_bounds(halves: &mut [u32], half: usize) -> Bounds
+    requires { ⌜ (0 < length (now halves)) × (half < length (now halves)) ⌝ }
+    ensures taken { λ r. ⌜ (r .lower ≡ getD (now (halves .entry)) 0 0) × (r .upper ≡ getD (now (halves .entry)) half 0) ⌝ }
+    ensures cleared { λ _. ⌜ now (halves .exit) ≡ replicate (length (now (halves .entry))) 0 ⌝ }
+{
+    let lower = halves[0];
+    let upper = halves[half];
+    fill(halves, 0);
+    Bounds { lower, upper }
+}

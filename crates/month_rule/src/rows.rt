@@ -1,0 +1,157 @@
+// Rows of values in lent memory. The place in a row is what has been paid in claims: a month without a claim keeps the place, a claim of size x
+// leads x places on. So a month reads a place and those beyond it, and rewrites a row in place going upward.
+ghost use mathlib.Core.Path.{_≡_};
+ghost use Prim.Native.Nat.{ℕ, _+_, _*_, _-_, _<_, _≤_};
+ghost use lib.ListN.{length, getD, drop, replicate};
+ghost use Rattle.model.specs.Scale.{S};
+ghost use Rattle.model.specs.Sums.{total};
+ghost use Rattle.model.specs.Levels.{gain};
+ghost use Rattle.model.specs.MonthRule.{month, kept, claimed-row};
+ghost use Rattle.month_rule.specs.Rows.{at, from-top, Parts, round-by, between, own-sizes, after-claim-by};
+ghost use Rattle.month_rule.specs.Shapes.{rows-size, values-in};
+use crate::month::claim_sum;
+use crate::month::month_value;
+use model::GAIN;
+use numbers::difference;
+use numbers::lesser;
+
+// What a question asks of the rows: how many there are, the places of each, whether they are told apart by the claims left, and the levels that are
+// not forbidden, from `low` on and below `above`.
+pub struct Shape {
+    pub rows: usize,
+    pub width: usize,
+    pub counted: bool,
+    pub low: usize,
+    pub above: usize,
+}
+
+pub fn fill(part: &mut [u32], value: u32)
+    ensures { λ _. ⌜ now (part .exit) ≡ replicate (length (now (part .entry))) value ⌝ }
+{
+    let mut k = 0;
+    while k < part.len() {
+        part[k] = value;
+        k += 1;
+    }
+}
+
+// The row at index `quiet` goes back one month: its first `live` places, from level live - 1 down to 0. After a claim the row at index `claimed` is
+// read, which lies no earlier; place 0 held the level `top`, and no claim leads to level 0, at place `top`.
+pub fn row_back(
+    rows: &mut [u32],
+    quiet: usize,
+    claimed: usize,
+    top: usize,
+    live: usize,
+    severity: &[u32],
+    chance: u32,
+    bias: u64,
+)
+    requires { ⌜ (quiet ≤ claimed) × (live + gain ≡ top + 1) × (claimed + top ≤ length (now rows)) ⌝ }
+    requires { ⌜ Parts (now rows) ⌝ }
+    requires { ⌜ total (now severity) ≤ S ⌝ }
+    requires { ⌜ (chance ≤ S) × (bias < S) ⌝ }
+    ensures rewritten { λ _.
+        ⌜ ((i : ℕ) → i < live →
+        getD (now (rows .exit)) (quiet + i) 0
+        ≡ month (round-by bias) (now (severity .entry)) chance (from-top top (drop quiet (now (rows .entry))))
+        (from-top top (drop claimed (now (rows .entry)))) (live - 1 - i)) ⌝ }
+    ensures before { λ _. ⌜ ((k : ℕ) → k < quiet → getD (now (rows .exit)) k 0 ≡ getD (now (rows .entry)) k 0) ⌝ }
+    ensures after { λ _. ⌜ ((k : ℕ) → quiet + live ≤ k → getD (now (rows .exit)) k 0 ≡ getD (now (rows .entry)) k 0) ⌝ }
+    ensures parts { λ _. ⌜ Parts (now (rows .exit)) ⌝ }
+{
+    let end = claimed + top;
+    let mut i = 0;
+    while i < live {
+        let next = claimed + i + 1;
+        let sum = claim_sum(severity, &rows[next..end]);
+        let place = quiet + i;
+        rows[place] = month_value(chance, rows[place], sum, bias);
+        i += 1;
+    }
+}
+
+// Sets a row's places below `first` and from `last` on to 0.
+fn forbid(row: &mut [u32], first: usize, last: usize)
+    ensures { λ _. ⌜ at (now (row .exit)) ≡ kept (between first last) (at (now (row .entry))) ⌝ }
+{
+    let low = lesser(first, row.len());
+    fill(&mut row[..low], 0);
+    let high = lesser(last, row.len());
+    fill(&mut row[high..], 0);
+}
+
+// Sets the forbidden levels of each row to 0, where place 0 holds the level `top`.
+pub fn forbid_rows(rows: &mut [u32], shape: Shape, top: usize)
+    requires { ⌜ (length (now rows) ≡ rows-size shape) × (top < shape .width) ⌝ }
+    requires { ⌜ Parts (now rows) ⌝ }
+    ensures forbidden { λ _.
+        ⌜ ((k : ℕ) → k < shape .rows → (s : ℕ) → s ≤ top →
+        values-in shape top (now (rows .exit)) k s ≡ kept (between (shape .low) (shape .above)) (values-in shape top (now (rows .entry)) k) s) ⌝ }
+    ensures parts { λ _. ⌜ Parts (now (rows .exit)) ⌝ }
+{
+    let count = shape.rows;
+    let width = shape.width;
+    let first = difference(top + 1, shape.above);
+    let last = difference(top + 1, shape.low);
+    let mut j = 0;
+    while j < count {
+        let start = j * width;
+        let end = start + width;
+        forbid(&mut rows[start..end], first, last);
+        j += 1;
+    }
+}
+
+// How many sizes a claim may have in the row with no claims left: none if claims are counted.
+fn own_sizes(counted: bool, sizes: usize) -> usize
+    ensures { λ r. ⌜ r ≡ own-sizes counted sizes ⌝ }
+{
+    if counted { 0 } else { sizes }
+}
+
+// All rows through one month, from place 0 at the level `top` to place 0 one gain below. A claim leads to the next row, with one claim fewer left: so
+// from the first row on.
+pub fn rows_back(
+    rows: &mut [u32],
+    shape: Shape,
+    top: usize,
+    severity: &[u32],
+    chance: u32,
+    bias: u64,
+)
+    requires { ⌜ (0 < shape .rows) × (gain ≤ top) × (top < shape .width) × (length (now rows) ≡ rows-size shape) ⌝ }
+    requires { ⌜ Parts (now rows) ⌝ }
+    requires { ⌜ total (now severity) ≤ S ⌝ }
+    requires { ⌜ (chance ≤ S) × (bias < S) ⌝ }
+    ensures rewritten { λ _.
+        ⌜ ((k : ℕ) → k < shape .rows → (s : ℕ) → s + gain ≤ top →
+        values-in shape (top - gain) (now (rows .exit)) k s
+        ≡ month (round-by bias) (now (severity .entry)) chance (values-in shape top (now (rows .entry)) k)
+        (claimed-row (values-in shape top (now (rows .entry))) (after-claim-by (shape .counted) k)) s) ⌝ }
+    ensures parts { λ _. ⌜ Parts (now (rows .exit)) ⌝ }
+{
+    let counted = shape.counted;
+    let width = shape.width;
+    let live = top + 1 - GAIN;
+    let last = shape.rows - 1;
+    let mut j = 0;
+    while j < last {
+        let start = j * width;
+        let next = start + width;
+        row_back(rows, start, next, top, live, severity, chance, bias);
+        j += 1;
+    }
+    let start = last * width;
+    let own = own_sizes(counted, severity.len());
+    row_back(
+        rows,
+        start,
+        start,
+        top,
+        live,
+        &severity[..own],
+        chance,
+        bias,
+    );
+}

@@ -1,0 +1,40 @@
+// The lengths that follow from an accepted head: of a plan's row, and of a row of values.
+use model::Head;
+use model::limits;
+ghost use mathlib.Core.Path.{_≡_};
+ghost use lib.ListN.{length};
+ghost use Rattle.model.specs.Limits.{row-room};
+ghost use Rattle.model.specs.Levels.{largest-level, row-levels};
+ghost use Rattle.model.specs.Plan.{row-length};
+ghost use Rattle.model.specs.Refusal.{HeadAccepted};
+
+// The numbers of a plan's row.
+pub fn row_length(head: Head) -> usize
+    requires { ⌜ HeadAccepted head ⌝ }
+    ensures { λ r. ⌜ r ≡ row-length head ⌝ }
+{
+    head.months + head.sizes + 1
+}
+
+// The level of a fund after all months without a claim.
+pub fn largest_level(head: Head) -> usize
+    requires { ⌜ HeadAccepted head ⌝ }
+    ensures { λ r. ⌜ r ≡ largest-level (head .opening) (head .months) ⌝ }
+{
+    head.opening + model::GAIN * head.months
+}
+
+// The levels 0 to the largest: the places of a row of values.
+pub fn row_levels(head: Head) -> usize
+    requires { ⌜ HeadAccepted head ⌝ }
+    ensures { λ r. ⌜ r ≡ row-levels (head .opening) (head .months) ⌝ }
+{
+    largest_level(head) + 1
+}
+
+// Room for every plan's row. The `ensures` gives the length, which lending a part of the array needs.
+pub fn blank_row() -> [u32; limits::ROW]
+    ensures { λ r. ⌜ row-room ≡ length r ⌝ }
+{
+    [0; limits::ROW]
+}
