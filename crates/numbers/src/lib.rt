@@ -1,4 +1,4 @@
-// Small numbers work. As a call on an element of a slice, a widening asks for no proof that the element fits.
+// What more than one crate does with numbers. The widenings are calls, since on an element of a slice a call asks for no proof that it fits.
 ghost use mathlib.Core.Path.{_≡_};
 ghost use Prim.Native.Nat.{_-_, min};
 
@@ -21,14 +21,14 @@ pub fn wide(x: u32) -> u64
     x as u64
 }
 
-// For a sum of bytes that is a length or a place.
+// For lengths that come in bytes.
 pub fn index(x: u8) -> usize
     ensures { λ r. ⌜ r ≡ x ⌝ }
 {
     x as usize
 }
 
-// For a number of 32 bits that comes in bytes.
+// For numbers of 32 bits that come in bytes.
 pub fn word(x: u8) -> u32
     ensures { λ r. ⌜ r ≡ x ⌝ }
 {

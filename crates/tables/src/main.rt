@@ -8,6 +8,7 @@ use model::Question;
 use model::limits;
 use numbers::index;
 use plan::lengths::blank_row;
+use plan::lengths::row_length;
 
 // A proved loop has to end, and nothing says that the input does, so the plans are counted down.
 fn main() {
@@ -38,17 +39,12 @@ fn next_plan() -> bool {
 fn read_plan(bytes: &mut [u8]) {
     io::read_full(STDIN_FILENO, bytes);
     let mut row = blank_row();
-    let plan = codec::read(bytes, &mut row);
-    let head = plan.head;
-    let months = head.months;
-    let sizes = head.sizes;
-    if limits::MONTHS < months {
+    let answer = codec::read(bytes, &mut row);
+    let head = answer.head;
+    if plan::head_refusal(head) != 0 {
         return;
     }
-    if limits::SIZES < sizes {
-        return;
-    }
-    let used = months + sizes + 1;
+    let used = row_length(head);
     print_survival(head, &row[..used]);
 }
 

@@ -7,7 +7,7 @@ use Rattle.plan.proofs.lengths.largest_level.Statement.{statement}
 use Rattle.plan.proofs.lengths.largest_level.Tie as tie
 
 mul-result : tie.Need-mul-result
-mul-result c = search needs
+mul-result c = omega (arith, head-facts _ (c .before .pre))
 
 add-result : tie.Need-add-result
 unfolding largest-level gain
