@@ -83,15 +83,15 @@ module _ (h : Head) (row : List ℕ) (ok : Accepted h row) where
 
   -- what is written reads back the same head and row
   months-back : number (take 7 (bits-of (bytes-of h row))) ≡ h .months
-  months-back = ap (λ l. number (take 7 l)) written-fields ∙ field-back 7 _ _ (omega (arith, known .months-fit))
+  months-back = ap (λ l. number (take 7 l)) written-fields ∙ field-back 7 _ _ (omega (arith, known .head .months-fit))
 
   opening-back : number (take 8 (drop 7 (bits-of (bytes-of h row)))) ≡ h .opening
   unfolding after-months
-  opening-back = ap (λ l. number (take 8 l)) drop-months ∙ field-back 8 _ _ (omega (arith, known .opening-fits))
+  opening-back = ap (λ l. number (take 8 l)) drop-months ∙ field-back 8 _ _ (omega (arith, known .head .opening-fits))
 
   sizes-back : number (take 9 (drop 15 (bits-of (bytes-of h row)))) ≡ h .sizes
   unfolding after-opening
-  sizes-back = ap (λ l. number (take 9 l)) drop-opening ∙ field-back 9 _ _ (omega (arith, known .sizes-fit))
+  sizes-back = ap (λ l. number (take 9 l)) drop-opening ∙ field-back 9 _ _ (omega (arith, known .head .sizes-fit))
 
   pub head-back : head-of (bytes-of h row) ≡ h
   unfolding head-of

@@ -119,11 +119,7 @@ head-facts h e =
 
 -- what is known of an accepted plan
 pub record Facts (h : Head) (row : List ℕ) : Type 0 where
-  pub months-fit : h .months ≤ max-months
-  pub opening-fits : h .opening ≤ max-opening
-  pub sizes-some : 0 < h .sizes
-  pub sizes-fit : h .sizes ≤ max-sizes
-  pub span-fits : largest-level (h .opening) (h .months) ≤ max-span
+  pub head : HeadFacts h
   pub row-is : length row ≡ row-length h
   pub numbers-fit : (i : ℕ) → getD row i 0 ≤ S
   pub weights-add : total (plan-of h row .severity) + plan-of h row .tail ≡ S
@@ -138,17 +134,12 @@ pub facts : (h : Head) (row : List ℕ) → Accepted h row → Facts h row
 unfolding plan-refusal plan-checks length-check number-checks
 facts h row e =
     let parts = none-fits-append (head-checks h) _ (head-numbered h) e in
-    let head = head-facts h (parts .0) in
     let length-ok = none-fits _ _ _ (parts .1) in
     let numbers-ok = none-fits _ _ _ (length-ok .1) in
     let weights-ok = none-fits _ _ _ (numbers-ok .1) in
     let tail-ok = none-fits _ _ _ (weights-ok .1) in
     record {
-      months-fit = head .months-fit;
-      opening-fits = head .opening-fits;
-      sizes-some = head .sizes-some;
-      sizes-fit = head .sizes-fit;
-      span-fits = head .span-fits;
+      head = head-facts h (parts .0);
       row-is = eqb-true _ _ (not-false _ (length-ok .0));
       numbers-fit = none-above S row (numbers-ok .0);
       weights-add = eqb-true _ _ (not-false _ (weights-ok .0));

@@ -1,6 +1,6 @@
 -- Laws of the levels: a month adds something, and the largest level grows by it month by month.
 use mathlib.Core.Path.{_≡_}
-use Prim.Native.Nat.{ℕ, zero, suc, _+_, _*_, _<_, _≤_}
+use Prim.Native.Nat.{ℕ, suc, _+_, _<_, _≤_}
 use native.Mathlib.Nat.{mul-zero, mul-suc, mul-le-mul-left}
 use native.Mathlib.Omega.{arith}
 use Rattle.model.specs.Levels.{gain, largest-level}
@@ -9,14 +9,10 @@ pub gain-some : 0 < gain
 unfolding gain
 gain-some = omega arith
 
--- after no months, and after one month more
+-- after no months
 pub level-start : (u : ℕ) → largest-level u 0 ≡ u
 unfolding largest-level
 level-start u = omega (arith, mul-zero gain)
-
-pub level-more : (u n : ℕ) → largest-level u (suc n) ≡ largest-level u n + gain
-unfolding largest-level
-level-more u n = omega (arith, mul-suc gain n)
 
 -- a later month's largest level is not below an earlier one's
 pub level-later : (u t n : ℕ) → t ≤ n → largest-level u t ≤ largest-level u n

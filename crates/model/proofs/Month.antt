@@ -1,7 +1,7 @@
 -- Laws of one month over rows: the claim sum, the two roundings, and what a month keeps of its rows.
 use mathlib.Core.Path.{_≡_, refl, sym, _∙_, ap, ap₂}
 use mathlib.Core.List.{List, [], _∷_}
-use Prim.Native.Nat.{ℕ, zero, suc, _+_, _*_, _-_, _^_, _≤_, zero-le, _<_, min}
+use Prim.Native.Nat.{ℕ, zero, suc, _+_, _*_, _-_, _≤_, zero-le, _<_, min}
 use native.Mathlib.Nat.{le-refl, add-le-add, suc-min-suc, zero-min, min-zero, mul-le-mul, mul-le-mul-left, mul-le-mul-right, mul-add, add-mul, mul-assoc, mul-zero, zero-mul, mul-comm, mul-mul-mul-comm, le-trans, sub-add-cancel, sub-zero, add-zero}
 use native.Mathlib.Omega.{arith}
 use lib.ListN.{length, getD}

@@ -1,5 +1,5 @@
 -- Laws of the two halves: what each holds when it has been lent, the first and then the second, and the last rows.
-use mathlib.Core.Path.{_≡_, refl, sym, _∙_, ap}
+use mathlib.Core.Path.{_≡_, sym, _∙_, ap}
 use mathlib.Core.List.{List, [], _++_, append-nil}
 use Prim.Native.Nat.{ℕ, zero, suc, _+_, _*_, _-_, _≤_, zero-le, _<_}
 use native.Mathlib.Nat.{le-refl, sub-zero, suc-mul}

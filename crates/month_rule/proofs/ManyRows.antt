@@ -4,23 +4,23 @@ use mathlib.Core.Logic.{⊎-elim}
 use mathlib.Core.Bool.{Bool, true, false, _&&_, cond}
 use mathlib.Core.List.{List, [], _∷_, _++_}
 use Prim.Native.Nat.{ℕ, zero, suc, _+_, _*_, _-_, _≤_, zero-le, _<_}
-use native.Mathlib.Nat.{le-refl, suc-mul, zero-mul, mul-le-mul-right}
+use native.Mathlib.Nat.{suc-mul, mul-le-mul-right}
 use native.Mathlib.Numerals.{add-one}
 use native.Mathlib.Omega.{arith}
 use lib.Dec.{leb, ltb}
 use borrow.Author.Count.{below-more}
 use borrow.Author.Tests.{le-leb, lt-leb, lt-ltb, le-ltb}
 use borrow.Rule.Slice.PartMut.{midOf, postOf, putMid, same-len-mid}
-use lib.ListN.{length, getD, take, drop, length-drop, replicate, length-replicate, getD-replicate, List·getD-append}
-use lib.Seq.{length-take-le, getD-take, getD-drop, drop-drop}
+use lib.ListN.{length, getD, take, drop, length-drop, List·getD-append}
+use lib.Seq.{length-take-le, getD-take, getD-drop}
 use Rattle.model.specs.Scale.{S}
-use Rattle.model.specs.MonthRule.{Row, kept, all-placed}
+use Rattle.model.specs.MonthRule.{Row, kept}
 use Rattle.month_rule.specs.declared.rows.Shape.{Shape}
 use Rattle.month_rule.specs.Rows.{at, Parts, between}
 use Rattle.month_rule.specs.Shapes.{values-in}
 use Rattle.month_rule.proofs.MonthLaws.{below-or-not}
 use Rattle.month_rule.proofs.RowLaws.{parts-part}
-use Rattle.month_rule.proofs.ForbidLaws.{getD-zeros, getD-past}
+use Rattle.month_rule.proofs.ForbidLaws.{getD-past}
 
 -- a row by its number in the list
 abbrev pub rows-at : ℕ → List ℕ → ℕ → Row

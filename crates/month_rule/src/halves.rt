@@ -1,7 +1,7 @@
 // The workspace of a question: two halves with the same rows, the first for the lower bounds and the second for the upper. Whatever last rows the
 // halves hold, the walk back through the months is this one.
 ghost use mathlib.Core.Path.{_≡_};
-ghost use Prim.Native.Nat.{ℕ, _+_, _*_, _<_, _≤_};
+ghost use Prim.Native.Nat.{ℕ, _*_, _<_, _≤_};
 ghost use lib.ListN.{length, getD, take, drop, replicate};
 ghost use Rattle.model.specs.Scale.{S, down, up};
 ghost use Rattle.model.specs.Sums.{total};

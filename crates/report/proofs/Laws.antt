@@ -28,7 +28,7 @@ use Rattle.engine.proofs.AskLaws.{workspace-fits, ask-refusal-is}
 use Rattle.report.specs.Text.{space, line, joined, Appended}
 use Rattle.report.proofs.TextLaws.{entry-at-most, line-at-most, joined-at-most, joined-same}
 use Rattle.report.specs.Report.{refused-word, plan-report, report-of, months-word, opening-word, sizes-word, head-line, head-room, word-of, numbered}
-use Rattle.report.specs.Report.{claims-word, bounds-line, question-line, question-at, question-lines, span-of, group-lines, most-lines}
+use Rattle.report.specs.Report.{claims-word, bounds-line, question-line, question-at, question-lines, line-range, group-lines, most-lines}
 use Rattle.report.specs.Report.{claims-line, claims-at, claims-line-of, claims-lines, line-room, CountsOf}
 
 bounds-short : (q : Question) (low high : ℕ) → length (bounds-line q low high) ≤ line-room
@@ -51,26 +51,26 @@ claims-are n h counts =
     joined-same (n + 1) (λ k l. rw (counts .lowers-are k (omega arith), counts .uppers-are k (omega arith)))
 
 -- the numbers of a question's lines start at 0 or 1, are within the limits, and are at most so many
-pub span-starts : (q : Question) (h : Head) → span-of q h .first ≤ 1
-unfolding span-of
-span-starts Survive h = omega arith
-span-starts (Both k) h = omega arith
-span-starts (High L) h = omega arith
-span-starts (Low L) h = omega arith
+pub range-starts : (q : Question) (h : Head) → line-range q h .first ≤ 1
+unfolding line-range
+range-starts Survive h = omega arith
+range-starts (Both k) h = omega arith
+range-starts (High L) h = omega arith
+range-starts (Low L) h = omega arith
 
-pub span-within : (q : Question) (h : Head) → HeadFacts h → (i : ℕ) → i < span-of q h .count → outside (numbered q (span-of q h .first + i)) ≡ false
-unfolding outside span-of gain
-span-within Survive h known i l = refl
-span-within (Both k) h known i l = le-ltb max-claims (0 + i) (omega (arith, min-le-right (h .months) max-claims))
-span-within (High L) h known i l = le-ltb max-level (1 + i) (omega (arith, known .span-fits))
-span-within (Low L) h known i l = le-ltb max-level (1 + i) (omega (arith, known .opening-fits))
+pub range-within : (q : Question) (h : Head) → HeadFacts h → (i : ℕ) → i < line-range q h .count → outside (numbered q (line-range q h .first + i)) ≡ false
+unfolding outside line-range gain
+range-within Survive h known i l = refl
+range-within (Both k) h known i l = le-ltb max-claims (0 + i) (omega (arith, min-le-right (h .months) max-claims))
+range-within (High L) h known i l = le-ltb max-level (1 + i) (omega (arith, known .span-fits))
+range-within (Low L) h known i l = le-ltb max-level (1 + i) (omega (arith, known .opening-fits))
 
-pub span-most : (q : Question) (h : Head) → HeadFacts h → span-of q h .count ≤ most-lines q
-unfolding span-of most-lines gain
-span-most Survive h known = omega arith
-span-most (Both k) h known = omega (arith, min-le-right (h .months) max-claims)
-span-most (High L) h known = omega (arith, known .span-fits)
-span-most (Low L) h known = omega (arith, known .opening-fits)
+pub range-most : (q : Question) (h : Head) → HeadFacts h → line-range q h .count ≤ most-lines q
+unfolding line-range most-lines gain
+range-most Survive h known = omega arith
+range-most (Both k) h known = omega (arith, min-le-right (h .months) max-claims)
+range-most (High L) h known = omega (arith, known .span-fits)
+range-most (Low L) h known = omega (arith, known .opening-fits)
 
 -- where the head line, the lines of the count row and those of a question end
 pub head-ends : (h : Head) {b b′ : List ℕ} {at end : ℕ} → Appended b at (head-line h) b′ end → end ≤ at + head-room
@@ -96,8 +96,8 @@ group-ends p h q known e =
     omega (
       arith,
       e .ends,
-      joined-at-most (question-at p q (span-of q h .first)) line-room (λ i. question-short _ _) (span-of q h .count),
-      mul-le-mul-right line-room (span-most q h known),
+      joined-at-most (question-at p q (line-range q h .first)) line-room (λ i. question-short _ _) (line-range q h .count),
+      mul-le-mul-right line-room (range-most q h known),
     )
 
 -- What asking answers on an accepted plan

@@ -14,7 +14,7 @@ use Rattle.model.specs.Plan.{Plan, plan-of}
 use Rattle.model.specs.Format.{head-of, row-of}
 use Rattle.model.specs.Bounds.{lower, upper, count-lower, count-upper}
 use Rattle.model.specs.Refusal.{read-refusal}
-use Rattle.report.specs.declared.groups.Span.{Span}
+use Rattle.report.specs.declared.groups.LineRange.{LineRange}
 use Rattle.report.specs.Text.{space, entry, line, joined}
 
 -- "refused", "months", "opening", "sizes", "claims"
@@ -90,15 +90,15 @@ unfoldable pub claims-lines : Plan → ℕ → List ℕ
 claims-lines p n = joined (n + 1) (claims-line-of p)
 
 -- "both 0 to the lesser of n and 24, high 1 to u + n, low 1 to u + 1"; survive has one line, with no number
-unfoldable pub span-of : Question → Head → Span
-span-of Survive h = record { first = 0; count = 1 }
-span-of (Both k) h = record { first = 0; count = min (h .months) max-claims + 1 }
-span-of (High L) h = record { first = 1; count = largest-level (h .opening) (h .months) }
-span-of (Low L) h = record { first = 1; count = h .opening + gain }
+unfoldable pub line-range : Question → Head → LineRange
+line-range Survive h = record { first = 0; count = 1 }
+line-range (Both k) h = record { first = 0; count = min (h .months) max-claims + 1 }
+line-range (High L) h = record { first = 1; count = largest-level (h .opening) (h .months) }
+line-range (Low L) h = record { first = 1; count = h .opening + gain }
 
 -- all lines of a question
 abbrev pub group-lines : Plan → Head → Question → List ℕ
-group-lines p h q = question-lines p q (span-of q h .first) (span-of q h .count)
+group-lines p h q = question-lines p q (line-range q h .first) (line-range q h .count)
 
 -- the report of an accepted plan
 unfoldable pub plan-report : Head → List ℕ → List ℕ

@@ -7,7 +7,7 @@ ghost use Rattle.model.specs.Limits.{workspace-room};
 ghost use Rattle.model.specs.Plan.{plan-of};
 ghost use Rattle.model.specs.Refusal.{HeadAccepted, Accepted, outside};
 ghost use Rattle.report.specs.Text.{joined, Appended};
-ghost use Rattle.report.specs.Report.{question-lines, span-of, group-lines, claims-at, claims-lines, line-room, most-lines};
+ghost use Rattle.report.specs.Report.{question-lines, line-range, group-lines, claims-at, claims-lines, line-room, most-lines};
 ghost use Rattle.report.specs.Report.{numbered as Report·numbered};
 use crate::answers;
 use crate::lines::put_claims_line;
@@ -20,26 +20,26 @@ use numbers::wide;
 use plan::lengths::largest_level;
 
 // The numbers of a question's lines: the first, and how many there are.
-pub struct Span {
+pub struct LineRange {
     pub first: usize,
     pub count: usize,
 }
 
-fn span_of(question: Question, head: Head) -> Span
+fn line_range(question: Question, head: Head) -> LineRange
     requires { ⌜ HeadAccepted head ⌝ }
-    ensures { λ r. ⌜ r ≡ span-of question head ⌝ }
+    ensures { λ r. ⌜ r ≡ line-range question head ⌝ }
 {
     match question {
-        Question::Survive => Span { first: 0, count: 1 },
-        Question::Both(_) => Span {
+        Question::Survive => LineRange { first: 0, count: 1 },
+        Question::Both(_) => LineRange {
             first: 0,
             count: lesser(head.months, limits::CLAIMS) + 1,
         },
-        Question::High(_) => Span {
+        Question::High(_) => LineRange {
             first: 1,
             count: largest_level(head),
         },
-        Question::Low(_) => Span {
+        Question::Low(_) => LineRange {
             first: 1,
             count: head.opening + model::GAIN,
         },
@@ -60,14 +60,14 @@ pub fn put_group(
     requires { ⌜ at + most-lines question * line-room ≤ length (now text) ⌝ }
     ensures { λ r. ⌜ Appended (now (text .entry)) at (group-lines (plan-of head (now (row .entry))) head question) (now (text .exit)) r ⌝ }
 {
-    let span = span_of(question, head);
+    let range = line_range(question, head);
     put_questions(
         text,
         at,
         head,
         question,
-        span.first,
-        span.count,
+        range.first,
+        range.count,
         row,
         workspace,
     )

@@ -94,7 +94,7 @@ slice-aggregate-question-bounds-2 : tie.Need-slice-aggregate-question-bounds-2
 slice-aggregate-question-bounds-2 c = simp length-take (omega (arith, fits (answered (c .before .before .before .before)) .row-is))
 
 mul-question-bounds : tie.Need-mul-question-bounds
-mul-question-bounds c = omega (arith, fits (answered (c .before .before .before .before)) .months-fit)
+mul-question-bounds c = omega (arith, fits (answered (c .before .before .before .before)) .head .months-fit)
 
 sub-question-bounds : tie.Need-sub-question-bounds
 sub-question-bounds c = search needs

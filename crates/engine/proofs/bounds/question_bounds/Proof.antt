@@ -1,6 +1,6 @@
 -- `question_bounds` meets its contract: the last rows in memory are those of the rule, and each half's value stands at its first place (`taken-value`).
 use mathlib.Core.Path.{_≡_, sym, ap, _∙_}
-use Prim.Native.Nat.{_*_, _<_, _≤_}
+use Prim.Native.Nat.{_*_, _<_}
 use native.Mathlib.Nat.{add-zero}
 use native.Mathlib.Omega.{arith}
 use lib.ListN.{length, replicate}

@@ -1,6 +1,6 @@
 -- `halves_back` meets its contract: each half taken back, as it came back (`HalfLaws`).
-use mathlib.Core.Path.{_≡_, ap, _∙_}
-use Prim.Native.Nat.{_*_, _-_, _≤_}
+use mathlib.Core.Path.{ap, _∙_}
+use Prim.Native.Nat.{_-_}
 use native.Mathlib.Omega.{arith}
 use lib.ListN.{length, length-take, length-drop}
 use lib.Seq.{length-take-le}

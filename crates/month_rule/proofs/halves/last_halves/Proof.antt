@@ -1,12 +1,10 @@
 -- `last_halves` meets its contract: each half as it came back (`HalfLaws`).
-use mathlib.Core.Path.{_≡_, _∙_}
-use Prim.Native.Nat.{_*_, _≤_}
 use native.Mathlib.Omega.{arith}
-use lib.ListN.{length, length-take}
+use lib.ListN.{length-take}
 use lib.Seq.{length-take-le}
 use borrow.Author.Needs.{needs}
 use Rattle.month_rule.specs.Shapes.{rows-size}
-use Rattle.month_rule.proofs.HalfLaws.{second-lent, first-half, second-half, parts-both}
+use Rattle.month_rule.proofs.HalfLaws.{first-half, second-half, parts-both}
 use Rattle.month_rule.proofs.halves.last_halves.Statement.{statement}
 use Rattle.month_rule.proofs.halves.last_halves.Tie as tie
 

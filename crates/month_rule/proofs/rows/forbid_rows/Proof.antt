@@ -1,5 +1,4 @@
 -- `forbid_rows` meets its contract. The invariant: the rows passed are forbidden, the others as they were (`Forbidding`).
-use mathlib.Core.Path.{_≡_}
 use Prim.Native.Nat.{_+_, _*_, _-_, _≤_}
 use native.Mathlib.Omega.{arith}
 use lib.ListN.{length}

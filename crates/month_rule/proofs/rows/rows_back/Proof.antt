@@ -3,10 +3,8 @@ use mathlib.Core.Path.{_≡_}
 use Prim.Native.Nat.{ℕ, _+_, _*_, _-_, _<_, _≤_}
 use native.Mathlib.Nat.{le-trans}
 use native.Mathlib.Omega.{arith}
-use borrow.Author.Needs.{needs}
 use lib.ListN.{length, length-take}
 use Rattle.model.specs.Levels.{gain}
-use Rattle.model.proofs.LevelLaws.{gain-some}
 use Rattle.month_rule.proofs.ManyRows.{row-fits}
 use Rattle.month_rule.proofs.BackLaws.{rows-before, rows-left, own-sizes-le, total-take-le, GoingBack, going-back-start, going-back-turn, going-back-end, going-back-done}
 use Rattle.month_rule.proofs.rows.rows_back.Statement.{statement}

@@ -19,7 +19,7 @@ put-claims-requires : tie.Need-put-claims-requires
 put-claims-requires c κs =
     let counts = c .before .before .before .before .before .count-row-of .ensures in
     let plan = facts (c .before .before .before .before .before .before .before .before .args .head) (c .before .before .before .before .before .before .before .before .args .row .now) (c .before .before .before .before .before .before .before .before .pre .0) in
-    ((omega (arith, plan .months-fit, counts .lowers-long), omega (arith, plan .months-fit, counts .uppers-long)), search needs)
+    ((omega (arith, plan .head .months-fit, counts .lowers-long), omega (arith, plan .head .months-fit, counts .uppers-long)), search needs)
 
 same-length : tie.Need-same-length
 same-length c = search needs
@@ -27,7 +27,7 @@ same-length c = search needs
 returns : tie.Need-returns
 returns c =
     let plan = facts (c .before .before .before .before .before .before .before .before .before .before .before .args .head) (c .before .before .before .before .before .before .before .before .before .before .before .args .row .now) (c .before .before .before .before .before .before .before .before .before .before .before .pre .0) in
-    rw (← claims-are (c .before .before .before .before .before .before .before .before .before .before .before .args .head .months) (omega (arith, plan .months-fit)) (c .before .before .before .before .before .before .before .before .count-row-of .ensures)) (c .before .before .put-claims .ensures)
+    rw (← claims-are (c .before .before .before .before .before .before .before .before .before .before .before .args .head .months) (omega (arith, plan .head .months-fit)) (c .before .before .before .before .before .before .before .before .count-row-of .ensures)) (c .before .before .put-claims .ensures)
 
 pub put-counts-spec : {M : Type 1} → statement M
 put-counts-spec =

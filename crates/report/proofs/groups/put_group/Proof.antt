@@ -5,7 +5,7 @@ use borrow.Author.Needs.{needs}
 use Rattle.model.specs.Refusal.{HeadAccepted}
 use Rattle.model.proofs.Facts.{HeadFacts, head-facts, accepted-head}
 use Rattle.report.specs.Report.{line-room}
-use Rattle.report.proofs.Laws.{span-starts, span-within, span-most}
+use Rattle.report.proofs.Laws.{range-starts, range-within, range-most}
 use Rattle.report.proofs.groups.put_group.Statement.{statement}
 use Rattle.report.proofs.groups.put_group.Tie as tie
 
@@ -15,22 +15,22 @@ head-ok s = accepted-head _ _ (s .pre .0)
 known : (s : tie.Start) → HeadFacts (s .args .head)
 known s = head-facts _ (head-ok s)
 
-span-of-requires : tie.Need-span-of-requires
-span-of-requires c κs = head-ok (c .before .before .before)
+line-range-requires : tie.Need-line-range-requires
+line-range-requires c κs = head-ok (c .before .before .before)
 
 put-questions-requires : tie.Need-put-questions-requires
 put-questions-requires c κs =
     let start = c .before .before .before .before .before .before in
     let q = start .args .question in
     let h = start .args .head in
-    let fits = mul-le-mul-right line-room (span-most q h (known start)) in
-    rw (c .before .before .span-of .ensures) (
+    let fits = mul-le-mul-right line-room (range-most q h (known start)) in
+    rw (c .before .before .line-range .ensures) (
       search needs,
       (
-        span-within q h (known start),
+        range-within q h (known start),
         (
           search needs,
-          (omega (arith, span-starts q h), omega arith),
+          (omega (arith, range-starts q h), omega arith),
         ),
       ),
     )
@@ -42,8 +42,8 @@ same-length-2 : tie.Need-same-length-2
 same-length-2 c = search needs
 
 returns : tie.Need-returns
-returns c = rw (← c .before .before .before .before .before .before .before .span-of .ensures) (c .before .before .before .before .put-questions .ensures)
+returns c = rw (← c .before .before .before .before .before .before .before .line-range .ensures) (c .before .before .before .before .put-questions .ensures)
 
 pub put-group-spec : {M : Type 1} → statement M
 put-group-spec =
-    tie.close (tie.spec span-of-requires put-questions-requires same-length same-length-2 returns)
+    tie.close (tie.spec line-range-requires put-questions-requires same-length same-length-2 returns)

@@ -1,11 +1,11 @@
--- `groups::span_of` meets its contract, by the question's cases. Assumes nothing.
+-- `groups::line_range` meets its contract, by the question's cases. Assumes nothing.
 use native.Mathlib.Omega.{arith}
 use borrow.Author.Needs.{needs}
 use Rattle.model.specs.Levels.{gain}
 use Rattle.model.proofs.Facts.{head-facts}
-use Rattle.report.specs.Report.{span-of}
-use Rattle.report.proofs.groups.span_of.Statement.{statement}
-use Rattle.report.proofs.groups.span_of.Tie as tie
+use Rattle.report.specs.Report.{line-range}
+use Rattle.report.proofs.groups.line_range.Statement.{statement}
+use Rattle.report.proofs.groups.line_range.Tie as tie
 
 enum-told : tie.Need-enum-told
 enum-told c = search needs
@@ -32,23 +32,23 @@ add-t7 : tie.Need-add-t7
 add-t7 c = omega (arith, head-facts _ (c .before .before .before .pre))
 
 returns : tie.Need-returns
-unfolding span-of
+unfolding line-range
 returns c = rw (c .enum-told .given .1)
 
 returns-2 : tie.Need-returns-2
-unfolding span-of
+unfolding line-range
 returns-2 c = rw (c .before .enum-told2 .given .1, c .lesser .ensures)
 
 returns-3 : tie.Need-returns-3
-unfolding span-of
+unfolding line-range
 returns-3 c = rw (c .before .enum-told3 .given .1, c .largest-level .ensures)
 
 returns-4 : tie.Need-returns-4
-unfolding span-of gain
+unfolding line-range gain
 returns-4 c = rw (c .before .enum-told4 .given .1)
 
-pub span-of-spec : {M : Type 1} → statement M
-span-of-spec =
+pub line-range-spec : {M : Type 1} → statement M
+line-range-spec =
     tie.close
     (tie.spec
     enum-told
