@@ -66,7 +66,7 @@ range-within (High L) h known i l = le-ltb max-level (1 + i) (omega (arith, know
 range-within (Low L) h known i l = le-ltb max-level (1 + i) (omega (arith, known .opening-fits))
 
 pub range-most : (q : Question) (h : Head) → HeadFacts h → line-range q h .count ≤ most-lines q
-unfolding line-range most-lines gain
+unfolding line-range most-lines
 range-most Survive h known = omega arith
 range-most (Both k) h known = omega (arith, min-le-right (h .months) max-claims)
 range-most (High L) h known = omega (arith, known .span-fits)

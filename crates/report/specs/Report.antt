@@ -132,7 +132,7 @@ unfoldable pub most-lines : Question → ℕ
 most-lines Survive = 1
 most-lines (Both k) = max-claims + 1
 most-lines (High L) = max-span
-most-lines (Low L) = max-opening + 1
+most-lines (Low L) = max-opening + gain
 
 abbrev pub text-room : ℕ
 text-room =

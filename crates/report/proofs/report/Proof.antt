@@ -2,6 +2,7 @@
 use mathlib.Core.Path.{sym}
 use borrow.Author.Needs.{needs}
 use lib.Seq.{length-take-le}
+use Rattle.model.specs.Levels.{gain}
 use Rattle.report.specs.Report.{most-lines}
 use Rattle.report.proofs.TextLaws.{appended-whole}
 use Rattle.report.proofs.report.Statement.{statement}
@@ -20,7 +21,7 @@ slice-aggregate-put-report-2 : tie.Need-slice-aggregate-put-report-2
 slice-aggregate-put-report-2 c = search needs
 
 put-report-requires : tie.Need-put-report-requires
-unfolding most-lines
+unfolding most-lines gain
 put-report-requires c κs = search needs
 
 returns : tie.Need-returns
