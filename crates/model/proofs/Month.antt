@@ -2,7 +2,7 @@
 use mathlib.Core.Path.{_≡_, refl, sym, _∙_, ap, ap₂}
 use mathlib.Core.List.{List, [], _∷_}
 use Prim.Native.Nat.{ℕ, zero, suc, _+_, _*_, _-_, _≤_, zero-le, _<_, min}
-use native.Mathlib.Nat.{le-refl, add-le-add, suc-min-suc, zero-min, min-zero, mul-le-mul, mul-le-mul-left, mul-le-mul-right, mul-add, add-mul, mul-assoc, mul-zero, zero-mul, mul-comm, mul-mul-mul-comm, le-trans, sub-add-cancel, sub-zero, add-zero}
+use native.Mathlib.Nat.{le-refl, add-le-add, suc-min-suc, min-zero, mul-le-mul, mul-le-mul-left, mul-le-mul-right, mul-add, add-mul, mul-assoc, mul-zero, zero-mul, mul-comm, mul-mul-mul-comm, le-trans, sub-add-cancel, sub-zero, add-zero}
 use native.Mathlib.Omega.{arith}
 use lib.ListN.{length, getD}
 use Rattle.model.specs.Scale.{S, Rounding, down, up}
@@ -21,7 +21,7 @@ claim-sum-none Y r = rw min-zero
 -- a claim leaves a level above 0
 pub claim-sum-ground : (F : List ℕ) (Y : Row) (r : ℕ) → r ≤ 1 → claim-sum F Y r ≡ 0
 unfolding claim-sum sum
-claim-sum-ground F Y r l = let none : r - 1 ≡ 0 = omega arith in rw (none, zero-min)
+claim-sum-ground F Y r l = let none : min (r - 1) (length F) ≡ 0 = omega arith in ap (λ (n : ℕ). sum n (λ x. nth F x * Y (r - x))) none
 
 pub claim-sum-cons : (f : ℕ) (F : List ℕ) (Y : Row) (r : ℕ) → claim-sum (f ∷ F) Y (suc (suc r)) ≡ f * Y (suc r) + claim-sum F Y (suc r)
 unfolding claim-sum sum nth
