@@ -13,6 +13,10 @@ const OPENING: usize = 200;
 const SIZES: usize = 260;
 const CLAIMS: usize = 24;
 
+/// The widths in bits of n, u and m, and of each number of the row.
+const HEAD_BITS: [usize; 3] = [7, 8, 9];
+const NUMBER_BITS: usize = 31;
+
 struct Plan {
     opening: usize,
     chances: Vec<u32>,
@@ -51,13 +55,11 @@ impl Bits<'_> {
 
 /// The plan, or the number that turns the bytes away.
 fn read(bytes: &[u8]) -> Result<Plan, u32> {
-    if bytes.len() < 3 {
+    if 8 * bytes.len() < HEAD_BITS.iter().sum() {
         return Err(1);
     }
     let mut bits = Bits { bytes, at: 0 };
-    let n = bits.take(7) as usize;
-    let u = bits.take(8) as usize;
-    let m = bits.take(9) as usize;
+    let [n, u, m] = HEAD_BITS.map(|width| bits.take(width) as usize);
     if n > MONTHS {
         return Err(2);
     }
@@ -67,10 +69,10 @@ fn read(bytes: &[u8]) -> Result<Plan, u32> {
     if m == 0 || m > SIZES {
         return Err(4);
     }
-    if bytes.len() != (bits.at + 31 * (n + m + 1)).div_ceil(8) {
+    if bytes.len() != (bits.at + NUMBER_BITS * (n + m + 1)).div_ceil(8) {
         return Err(5);
     }
-    let row: Vec<u64> = (0..n + m + 1).map(|_| bits.take(31)).collect();
+    let row: Vec<u64> = (0..n + m + 1).map(|_| bits.take(NUMBER_BITS)).collect();
     if bits.take(8 * bytes.len() - bits.at) != 0 {
         return Err(6);
     }

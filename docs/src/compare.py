@@ -12,7 +12,10 @@ import sys
 import time
 from collections import Counter
 
-from reference import CLAIMS, MONTHS, OPENING, SIZES, S, Head, byte_length, geometric, row_length, some_chance, split, write_bytes
+from plans import changed, flipped, geometric, some_chance, split
+from rules import CLAIMS, HEAD_BITS, HEAD_BYTES, LARGEST, MONTHS, OPENING, SIZES, Head, S, bit_length, byte_length, write_bytes
+
+BEYOND = -(-byte_length(LARGEST) // 100) * 100  # a round number of bytes, a little past the longest plan
 
 # ---- Accepted plans
 
@@ -73,22 +76,18 @@ def accepted(rng):
 # ---- Damaged ones, though a flipped bit may leave an accepted plan
 
 
-def flipped(data, at):
-    return (int.from_bytes(data, "big") ^ 1 << (8 * len(data) - 1 - at)).to_bytes(len(data), "big")
-
-
 def in_head(rng, head, row):
-    return flipped(write_bytes(head, row), rng.randrange(24))
+    return flipped(write_bytes(head, row), rng.randrange(HEAD_BITS))
 
 
 def in_row(rng, head, row):
-    return flipped(write_bytes(head, row), 24 + rng.randrange(31 * row_length(head)))
+    return flipped(write_bytes(head, row), rng.randrange(HEAD_BITS, bit_length(head)))
 
 
 def in_padding(rng, head, row):
     """A bit of the padding, or the row's last where there is none."""
     data = write_bytes(head, row)
-    padding = 24 + 31 * row_length(head)
+    padding = bit_length(head)
     return flipped(data, min(rng.randrange(padding, padding + 8), 8 * len(data) - 1))
 
 
@@ -96,7 +95,7 @@ def one_more(rng, head, row):
     """A number of the row is one more or one less."""
     at = rng.randrange(len(row))
     step = 1 if row[at] == 0 or rng.randrange(2) else -1
-    return write_bytes(head, row[:at] + [row[at] + step] + row[at + 1 :])
+    return write_bytes(head, changed(row, at, row[at] + step))
 
 
 def with_tail(rng, head, row):
@@ -111,20 +110,21 @@ def with_tail(rng, head, row):
 
 def shortened(rng, head, row):
     data = write_bytes(head, row)
-    return data[: rng.choice([rng.randrange(len(data)), rng.randrange(4), len(data) - 1])]
+    return data[: rng.choice([rng.randrange(len(data)), rng.randrange(HEAD_BYTES + 1), len(data) - 1])]
 
 
 def lengthened(rng, head, row):
-    return write_bytes(head, row) + rng.choice([bytes, rng.randbytes])(rng.choice([1, 2, rng.randrange(1, 1300), 5000]))
+    """The longest of these are more than the report program reads."""
+    return write_bytes(head, row) + rng.choice([bytes, rng.randbytes])(rng.choice([1, 2, rng.randrange(1, BEYOND), 5000]))
 
 
 def random_row(rng, head, row):
     data = write_bytes(head, row)
-    return data[:3] + rng.randbytes(len(data) - 3)
+    return data[:HEAD_BYTES] + rng.randbytes(len(data) - HEAD_BYTES)
 
 
 def random_bytes(rng, head, row):
-    return rng.randbytes(rng.choice([rng.randrange(5), rng.randrange(1300), byte_length(head)]))
+    return rng.randbytes(rng.choice([rng.randrange(HEAD_BYTES + 2), rng.randrange(BEYOND), byte_length(head)]))
 
 
 DAMAGES = [in_head, in_row, in_padding, one_more, with_tail, shortened, lengthened, random_row, random_bytes]

@@ -13,7 +13,8 @@ import sys
 from fractions import Fraction
 from pathlib import Path
 
-from reference import Head, S, write_bytes
+from records import plan_list
+from rules import Head, S, write_bytes
 
 # Table 1: the chance of a claim in month i
 CASES = {
@@ -51,13 +52,12 @@ def plan_bytes(n, u, alpha, chance):
 
 
 def main(folder):
-    plans, lines = b"", ""
+    plans, lines = [], ""
     for (u, alpha, case), figures in FIGURES.items():
         for n, figure in enumerate(figures, 1):
-            plan = plan_bytes(n, u, alpha, CASES[case])
-            plans += len(plan).to_bytes(2, "big") + plan
+            plans.append(plan_bytes(n, u, alpha, CASES[case]))
             lines += f"{figure} {figure}\n"
-    (folder / "stdin").write_bytes(plans)
+    (folder / "stdin").write_bytes(plan_list(plans))
     (folder / "stdout").write_text(lines)
 
 

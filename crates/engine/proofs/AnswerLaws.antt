@@ -14,10 +14,10 @@ use Rattle.model.specs.declared.Ask.{Ask}
 use Rattle.model.specs.declared.Question.{Question}
 use Rattle.model.specs.Scale.{S, Rounding}
 use Rattle.model.specs.Sums.{total}
-use Rattle.model.specs.Plan.{plan-of, row-length}
+use Rattle.model.specs.Plan.{Plan, plan-of, row-length}
 use Rattle.model.specs.Levels.{row-levels}
 use Rattle.model.specs.MonthRule.{month, value, values, all-placed}
-use Rattle.model.specs.Bounds.{bound, lower, upper}
+use Rattle.model.specs.Bounds.{Encloses, bound, lower, upper}
 use Rattle.model.specs.Refusal.{plan-refusal, outside, rows-needed, workspace-needed, ask-refusal}
 use Rattle.model.proofs.Facts.{Facts}
 use Rattle.engine.specs.declared.Answer.{Answer}
@@ -109,3 +109,9 @@ bound-is h row row-is q inside round width r ew e =
     rw sizes at e
     ∙ shape-value round (take (h .sizes) (drop (h .months) row)) (take (h .months) row) q (h .opening) width
     (rw (months-count h row row-is) ew) some-row
+
+-- enclosure of numbers that are the bounds
+pub encloses-as :
+    {p : Plan} {gap-months : List ℕ} {W low low′ high high′ : ℕ} → low ≡ low′ → high ≡ high′ → Encloses p gap-months W low′ high′ →
+    Encloses p gap-months W low high
+encloses-as el eh e = rw (el, eh) e

@@ -21,8 +21,8 @@ use Rattle.model.specs.Refusal.{first, plan-refusal, outside, rows-needed, work
 use Rattle.model.proofs.Facts.{HeadFacts, plan-first}
 use Rattle.month_rule.specs.Rows.{between, after-claim-by}
 use Rattle.month_rule.specs.Shapes.{rule-by}
-use Rattle.month_rule.proofs.MonthLaws.{below-or-not}
-use Rattle.month_rule.proofs.MonthsLaws.{Agree, values-agree}
+use Rattle.month_rule.proofs.ValueLaws.{below-or-not}
+use Rattle.month_rule.proofs.AllMonths.{Agree, values-agree}
 use Rattle.engine.specs.Questions.{shape-of}
 
 -- the checks after those of the plan
@@ -91,12 +91,12 @@ unfolding claimed-row after-claim-by
 one-claimed zero l X X′ k h = h 0 l
 one-claimed (suc j) l X X′ k h = absurd (omega arith)
 
-counted-claimed :
+both-claimed :
     (count j : ℕ) → j < count → (X X′ : ℕ → Row) (k : ℕ) → ((i : ℕ) → i < count → X i k ≡ X′ i k) →
     claimed-row X (one-fewer j) k ≡ claimed-row X′ (after-claim-by true j) k
 unfolding claimed-row after-claim-by one-fewer
-counted-claimed count zero l X X′ k h = refl
-counted-claimed count (suc j) l X X′ k h = h j (omega arith)
+both-claimed count zero l X X′ k h = refl
+both-claimed count (suc j) l X X′ k h = h j (omega arith)
 
 -- the levels of the rows are those that are not forbidden
 all-between : (top s : ℕ) → s ≤ top → true ≡ between 0 (top + 1) s
@@ -123,7 +123,7 @@ low-between L top s l = rw (lt-ltb s (top + 1) (omega arith)) (and-true (leb L s
 shape-agree : (q : Question) (top : ℕ) → Agree (rule-of q) (rule-by (shape-of q (top + 1))) (shape-of q (top + 1) .rows) top
 unfolding rule-of rule-by shape-of
 shape-agree Survive top = record { claimed = one-claimed; allowed = all-between top }
-shape-agree (Both k) top = record { claimed = counted-claimed (k + 1); allowed = all-between top }
+shape-agree (Both k) top = record { claimed = both-claimed (k + 1); allowed = all-between top }
 shape-agree (High L) top = record { claimed = one-claimed; allowed = λ s m. high-between L s }
 shape-agree (Low L) top = record { claimed = one-claimed; allowed = low-between L top }
 

@@ -11,7 +11,7 @@ use lib.Seq.{take-length, take-suc, drop-cons, drop-length, set-at, length-take-
 use Rattle.model.specs.Limits.{places}
 use Rattle.model.specs.Scale.{S, Rounding, down, up}
 use Rattle.model.specs.MonthRule.{Row}
-use Rattle.model.specs.CountRow.{one-before, count-month, no-months, counted, count-row, tabulate}
+use Rattle.model.specs.CountRow.{one-before, count-month, no-months, after-months, count-row, tabulate}
 use Rattle.model.specs.declared.Head.{Head}
 use Rattle.model.specs.Plan.{plan-of}
 use Rattle.model.specs.Exact.{exact-count}
@@ -23,8 +23,8 @@ use Rattle.engine.specs.declared.CountRow.{CountRow}
 use Rattle.month_rule.specs.Rows.{at, Parts, round-by}
 use Rattle.engine.specs.Counts.{CountParts, rows-after}
 use Rattle.engine.specs.declared.CountAnswer.{CountAnswer}
-use Rattle.engine.specs.Answers.{count-rows, zero-rows, count-answer}
-use Rattle.month_rule.proofs.MonthLaws.{round-by-le, down-by, up-by}
+use Rattle.engine.specs.Answers.{count-rows, count-refused, count-answer}
+use Rattle.month_rule.proofs.ValueLaws.{round-by-le, down-by, up-by}
 use Rattle.model.proofs.Counts.{length-tabulate, getD-tabulate}
 
 -- the row after one more month
@@ -32,23 +32,23 @@ abbrev pub count-after : ℕ → ℕ → List ℕ → Row
 count-after bias P old = count-month (round-by bias) P (at old)
 
 -- the row while the places from k on are new and the rest is old
-unfoldable pub counting : List ℕ → ℕ → ℕ → ℕ → List ℕ
-counting old bias P k = take k old ++ drop k (tabulate (length old) (count-after bias P old))
+unfoldable pub new-from : List ℕ → ℕ → ℕ → ℕ → List ℕ
+new-from old bias P k = take k old ++ drop k (tabulate (length old) (count-after bias P old))
 
 module _ (old : List ℕ) (bias P : ℕ) where
   new-count : length (tabulate (length old) (count-after bias P old)) ≡ length old
   new-count = length-tabulate (length old) (count-after bias P old)
 
-  pub counting-start : counting old bias P (length old) ≡ old
-  unfolding counting
-  counting-start =
+  pub new-from-start : new-from old bias P (length old) ≡ old
+  unfolding new-from
+  new-from-start =
       rw (take-length old, drop-of-length-le (tabulate (length old) (count-after bias P old)) {i = length old} (omega (arith, new-count))) (append-nil old)
 
-  pub counting-turn :
-      (row : List ℕ) (k v : ℕ) → k < length old → row ≡ counting old bias P (k + 1) → v ≡ count-after bias P old k →
-      set row k v ≡ counting old bias P k
-  unfolding counting
-  counting-turn row k v l e ev =
+  pub new-from-turn :
+      (row : List ℕ) (k v : ℕ) → k < length old → row ≡ new-from old bias P (k + 1) → v ≡ count-after bias P old k →
+      set row k v ≡ new-from old bias P k
+  unfolding new-from
+  new-from-turn row k v l e ev =
       rw (
         e,
         ev,
@@ -66,14 +66,14 @@ module _ (old : List ℕ) (bias P : ℕ) where
         getD-tabulate (length old) (count-after bias P old) k l,
       )
 
-  pub counting-end : counting old bias P 0 ≡ tabulate (length old) (count-after bias P old)
-  unfolding counting
-  counting-end = refl
+  pub new-from-end : new-from old bias P 0 ≡ tabulate (length old) (count-after bias P old)
+  unfolding new-from
+  new-from-end = refl
 
   -- the places up to k are still old
-  pub counting-below : (row : List ℕ) (k i : ℕ) → k < length old → row ≡ counting old bias P (k + 1) → i ≤ k → getD row i 0 ≡ getD old i 0
-  unfolding counting
-  counting-below row k i l e m =
+  pub new-from-below : (row : List ℕ) (k i : ℕ) → k < length old → row ≡ new-from old bias P (k + 1) → i ≤ k → getD row i 0 ≡ getD old i 0
+  unfolding new-from
+  new-from-below row k i l e m =
       rw e
       (List·getD-append (take (k + 1) old) (drop (k + 1) (tabulate (length old) (count-after bias P old))) 0 i
       (omega (arith, length-take-le (k + 1) old (omega arith)))
@@ -81,21 +81,21 @@ module _ (old : List ℕ) (bias P : ℕ) where
 
   -- the value at a place
   pub place-value :
-      (row : List ℕ) (k v : ℕ) → 0 < k → k < length old → row ≡ counting old bias P (k + 1) →
+      (row : List ℕ) (k v : ℕ) → 0 < k → k < length old → row ≡ new-from old bias P (k + 1) →
       v ≡ round-by bias ((S - P) * getD row k 0 + P * getD row (k - 1) 0) → v ≡ count-after bias P old k
   unfolding count-month one-before
   place-value row zero v p l e ev = absurd (omega arith)
   place-value row (suc k) v p l e ev =
       let less : suc k - 1 ≡ k = omega arith in
-      rw (ev, less, counting-below row (suc k) (suc k) l e (omega arith), counting-below row (suc k) k l e (omega arith))
+      rw (ev, less, new-from-below row (suc k) (suc k) l e (omega arith), new-from-below row (suc k) k l e (omega arith))
       (ap (round-by bias) (add-comm ((S - P) * getD old (suc k) 0) (P * getD old k 0)))
 
   pub first-value :
-      (row : List ℕ) (v : ℕ) → 0 < length old → row ≡ counting old bias P 1 → v ≡ round-by bias ((S - P) * getD row 0 0 + P * 0) →
+      (row : List ℕ) (v : ℕ) → 0 < length old → row ≡ new-from old bias P 1 → v ≡ round-by bias ((S - P) * getD row 0 0 + P * 0) →
       v ≡ count-after bias P old 0
   unfolding count-month one-before
   first-value row v l e ev =
-      rw (ev, counting-below row 0 0 l e (omega arith)) (ap (round-by bias) (add-comm ((S - P) * getD old 0 0) (P * 0)))
+      rw (ev, new-from-below row 0 0 l e (omega arith)) (ap (round-by bias) (add-comm ((S - P) * getD old 0 0) (P * 0)))
 
 -- the same by its rounding, of a whole row
 pub count-after-is :
@@ -137,24 +137,24 @@ unfolding count-month one-before
 count-month-agree round P n row row′ h zero l = rw (h 0 l)
 count-month-agree round P n row row′ h (suc k) l = rw (h (suc k) l, h k (omega arith))
 
-counted-agree :
+after-months-agree :
     (round : Rounding) (Ps : List ℕ) (n : ℕ) (row row′ : Row) → ((k : ℕ) → k < n → row k ≡ row′ k) →
-    (k : ℕ) → k < n → counted (count-month round) Ps row k ≡ counted (count-month round) Ps row′ k
-unfolding counted
-counted-agree round [] n row row′ h = h
-counted-agree round (P ∷ Ps) n row row′ h = counted-agree round Ps n (count-month round P row) (count-month round P row′) (count-month-agree round P n row row′ h)
+    (k : ℕ) → k < n → after-months (count-month round) Ps row k ≡ after-months (count-month round) Ps row′ k
+unfolding after-months
+after-months-agree round [] n row row′ h = h
+after-months-agree round (P ∷ Ps) n row row′ h = after-months-agree round Ps n (count-month round P row) (count-month round P row′) (count-month-agree round P n row row′ h)
 
 -- Where the months from t on still have to come: what they make of a row is the count row.
 abbrev pub Ahead : Rounding → List ℕ → List ℕ → ℕ → Type 0
-Ahead round chances xs t = (k : ℕ) → k < places → counted (count-month round) (drop t chances) (at xs) k ≡ count-row round chances k
+Ahead round chances xs t = (k : ℕ) → k < places → after-months (count-month round) (drop t chances) (at xs) k ≡ count-row round chances k
 
 ahead-turn :
     (round : Rounding) (chances xs : List ℕ) (t : ℕ) → t < length chances → Ahead round chances xs t →
     Ahead round chances (tabulate places (count-month round (getD chances t 0) (at xs))) (t + 1)
-unfolding counted
+unfolding after-months
 ahead-turn round chances xs t l h k m =
-    counted-agree round (drop (t + 1) chances) places (at (tabulate places new)) new (getD-tabulate places new) k m
-    ∙ rw add-one (ap (λ Ps. counted (count-month round) Ps (at xs) k) (sym (drop-cons chances t 0 l)) ∙ h k m)
+    after-months-agree round (drop (t + 1) chances) places (at (tabulate places new)) new (getD-tabulate places new) k m
+    ∙ rw add-one (ap (λ Ps. after-months (count-month round) Ps (at xs) k) (sym (drop-cons chances t 0 l)) ∙ h k m)
   where
     new : Row
     new = count-month round (getD chances t 0) (at xs)
@@ -162,15 +162,15 @@ ahead-turn round chances xs t l h k m =
 ahead-end :
     (round : Rounding) (chances xs : List ℕ) (t : ℕ) → t ≡ length chances → length xs ≡ places → Ahead round chances xs t →
     xs ≡ tabulate places (count-row round chances)
-unfolding counted
+unfolding after-months
 ahead-end round chances xs t e n h =
     ext-getD 0 xs (tabulate places (count-row round chances)) (n ∙ sym (length-tabulate places (count-row round chances)))
     (λ k l. rw (e, drop-length chances) at (h k (omega (arith, n))) ∙ sym (getD-tabulate places (count-row round chances) k (omega (arith, n))))
 
 -- the row after no months
 ahead-start : (round : Rounding) (chances : List ℕ) → Ahead round chances (tabulate places (count-row round [])) 0
-unfolding count-row counted
-ahead-start round chances k l = counted-agree round chances places (at (tabulate places no-months)) no-months (getD-tabulate places no-months) k l
+unfolding count-row after-months
+ahead-start round chances k l = after-months-agree round chances places (at (tabulate places no-months)) no-months (getD-tabulate places no-months) k l
 
 -- the rows while the months go: whole, in parts of S, and on their way to the count row
 pub record Counting (chances : List ℕ) (row : CountRow) (t : ℕ) : Type 0 where
@@ -190,7 +190,7 @@ whole-parts low high hl hh =
     }
 
 pub counting-rows-start : (chances : List ℕ) → Counting chances (count-rows []) 0
-unfolding count-rows count-row counted
+unfolding count-rows count-row after-months
 counting-rows-start chances =
     record {
       parts = whole-parts no-months no-months no-months-le no-months-le;
@@ -223,11 +223,13 @@ counting-rows-end chances row t e c =
     λ i. record { lower = low i; upper = high i }
 
 -- the answer of a refusal, and of the rows of a plan's chances
-pub count-refused :
-    (h : Head) (row : List ℕ) (n : ℕ) (rows : CountRow) → n ≡ plan-refusal h row → (n ≡ 0 → ⊥) → rows ≡ zero-rows →
-    _≡_ {A = CountAnswer} (record { refusal = n; row = rows }) (count-answer h row)
+pub refused-answer : (h : Head) (row : List ℕ) (n : ℕ) (r : CountAnswer) → n ≡ plan-refusal h row → (n ≡ 0 → ⊥) → r ≡ count-refused n → r ≡ count-answer h row
 unfolding count-answer
-count-refused h row n rows e ne er = rw (er, ← e, ne-eqb n 0 ne)
+refused-answer h row n r e ne er = rw (er, ← e, ne-eqb n 0 ne)
+
+pub refused-number : (n : ℕ) → count-refused n .refusal ≡ n
+unfolding count-refused
+refused-number n = refl
 
 pub chances-are : (h : Head) (row : List ℕ) → plan-of h row .chances ≡ take (h .months) row
 unfolding plan-of

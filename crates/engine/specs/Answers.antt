@@ -40,15 +40,16 @@ unfoldable pub count-rows : List ℕ → CountRow
 count-rows chances =
     record { lower = tabulate places (count-row down chances); upper = tabulate places (count-row up chances) }
 
-unfoldable pub zero-rows : CountRow
-zero-rows = record { lower = replicate places 0; upper = replicate places 0 }
+-- the count row of a refusal
+unfoldable pub count-refused : ℕ → CountAnswer
+count-refused number = record { refusal = number; row = record { lower = replicate places 0; upper = replicate places 0 } }
 
 -- the answer of the count row call
 unfoldable pub count-answer : Head → List ℕ → CountAnswer
 count-answer h row =
     cond (eqb number 0)
     (record { refusal = 0; row = count-rows (plan-of h row .chances) })
-    (record { refusal = number; row = zero-rows })
+    (count-refused number)
   where
     number : ℕ
     number = count-refusal h row

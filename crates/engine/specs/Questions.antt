@@ -7,7 +7,7 @@ use Rattle.month_rule.specs.declared.rows.Shape.{Shape}
 
 -- the shape of a question over rows of a width: only both k counts claims, only high and low forbid levels that a row has
 unfoldable pub shape-of : Question → ℕ → Shape
-shape-of Survive width = record { rows = 1; width = width; counted = false; low = 0; above = width }
-shape-of (Both k) width = record { rows = k + 1; width = width; counted = true; low = 0; above = width }
-shape-of (High L) width = record { rows = 1; width = width; counted = false; low = 0; above = L + 1 }
-shape-of (Low L) width = record { rows = 1; width = width; counted = false; low = L; above = width }
+shape-of Survive width = record { rows = 1; width = width; tallied = false; low = 0; above = width }
+shape-of (Both k) width = record { rows = k + 1; width = width; tallied = true; low = 0; above = width }
+shape-of (High L) width = record { rows = 1; width = width; tallied = false; low = 0; above = L + 1 }
+shape-of (Low L) width = record { rows = 1; width = width; tallied = false; low = L; above = width }

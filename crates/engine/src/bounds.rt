@@ -20,9 +20,9 @@ pub fn question_bounds(
     chances: &[u32],
     severity: &[u32],
 ) -> Bounds
-    requires { ⌜ (0 < shape .rows) × (largest-level opening (length (now chances)) < shape .width) × (length (now workspace) ≡ 2 * rows-size shape) ⌝ }
-    requires { ⌜ Parts (now chances) ⌝ }
-    requires { ⌜ total (now severity) ≤ S ⌝ }
+    requires { ⌜ (0 < shape .rows) × (length (now workspace) ≡ 2 * rows-size shape) ⌝ }
+    requires { ⌜ largest-level opening (length (now chances)) < shape .width ⌝ }
+    requires { ⌜ (total (now severity) ≤ S) × Parts (now chances) ⌝ }
     ensures lower { λ r. ⌜ r .lower ≡ values (month down (now (severity .entry))) (rule-by shape) all-placed (now (chances .entry)) (shape .rows - 1) opening ⌝ }
     ensures upper { λ r. ⌜ r .upper ≡ values (month up (now (severity .entry))) (rule-by shape) all-placed (now (chances .entry)) (shape .rows - 1) opening ⌝ }
     ensures cleared { λ _. ⌜ now (workspace .exit) ≡ replicate (length (now (workspace .entry))) 0 ⌝ }

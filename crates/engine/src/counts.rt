@@ -1,9 +1,10 @@
 // The count row, month by month.
+use crate::CountAnswer;
 use crate::CountRow;
 use model::limits;
-use month_rule::month::ROUND_DOWN;
-use month_rule::month::ROUND_UP;
-use month_rule::month::mixture;
+use month_rule::value::ROUND_DOWN;
+use month_rule::value::ROUND_UP;
+use month_rule::value::mixture;
 ghost use mathlib.Core.Path.{_≡_};
 ghost use Prim.Native.Nat.{_<_, _≤_};
 ghost use mathlib.Core.List.{[]};
@@ -12,7 +13,7 @@ ghost use Rattle.model.specs.Scale.{S};
 ghost use Rattle.model.specs.CountRow.{count-month, tabulate};
 ghost use Rattle.month_rule.specs.Rows.{at, Parts, round-by};
 ghost use Rattle.engine.specs.Counts.{CountParts, rows-after};
-ghost use Rattle.engine.specs.Answers.{count-rows, zero-rows};
+ghost use Rattle.engine.specs.Answers.{count-rows, count-refused};
 
 // A row through one month, in place from the last place down: place k reads the places k and k - 1.
 fn count_month(row: &mut [u32], chance: u32, bias: u64)
@@ -27,13 +28,16 @@ fn count_month(row: &mut [u32], chance: u32, bias: u64)
     row[0] = mixture(chance, row[0], 0, bias);
 }
 
-// The rows of a refusal.
-pub fn no_rows() -> CountRow
-    ensures { λ r. ⌜ r ≡ zero-rows ⌝ }
+// The answer of a refusal.
+pub fn refused(refusal: u32) -> CountAnswer
+    ensures { λ r. ⌜ r ≡ count-refused refusal ⌝ }
 {
-    CountRow {
-        lower: [0; limits::PLACES],
-        upper: [0; limits::PLACES],
+    CountAnswer {
+        refusal,
+        row: CountRow {
+            lower: [0; limits::PLACES],
+            upper: [0; limits::PLACES],
+        },
     }
 }
 

@@ -81,12 +81,9 @@ pub fn count_claims(head: Head, row: &[u32]) -> CountAnswer
         Encloses (plan-of head (now (row .entry))) (plan-of head (now (row .entry)) .chances) (exact-count (plan-of head (now (row .entry))) k)
         (getD (r .row .lower) k 0) (getD (r .row .upper) k 0)) ⌝ }
 {
-    let refusal = plan::plan_refusal(head, row);
-    if refusal != 0 {
-        return CountAnswer {
-            refusal,
-            row: counts::no_rows(),
-        };
+    let number = plan::plan_refusal(head, row);
+    if number != 0 {
+        return counts::refused(number);
     }
     let months = head.months;
     CountAnswer {

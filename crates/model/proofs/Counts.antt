@@ -13,7 +13,7 @@ use Rattle.model.specs.Plan.{Plan, nth}
 use Rattle.model.specs.History.{Event, no-claim, claim, tail-claim, History, is-claim, claims}
 use Rattle.model.specs.Exact.{has-claims, exact-count}
 use Rattle.model.specs.MonthRule.{Row}
-use Rattle.model.specs.CountRow.{one-before, count-month, exact-count-month, no-months, counted, count-row, tabulate}
+use Rattle.model.specs.CountRow.{one-before, count-month, exact-count-month, no-months, after-months, count-row, tabulate}
 use Rattle.model.specs.Bounds.{live-months, month-gap}
 use Rattle.model.proofs.SumLaws.{sum-nth-times, pow-two-more}
 use Rattle.model.proofs.Month.{Direction, times-right, Within, mixture-le, round-gap, round-whole}
@@ -85,39 +85,39 @@ unfolding count-month
 count-gap-idle X X′ g h k = simp (zero-mul, zero-add, sub-zero) (round-whole (X k) (X′ k) g (h k))
 
 -- and over all months
-counted-encloses :
+after-months-encloses :
     {rel : ℕ → ℕ → Type 0} {round : Rounding} (d : Direction rel round) (Ps : List ℕ) (X E : Row) (D : ℕ) → ((k : ℕ) → rel (X k * D) (E k)) →
-    (k : ℕ) → rel (counted (count-month round) Ps X k * (S ^ (2 * length Ps) * D)) (counted exact-count-month Ps E k)
-unfolding counted
-counted-encloses {rel} {round} d [] X E D h k = rw (pow-zero S, one-mul D) (h k)
-counted-encloses {rel} {round} d (P ∷ Ps) X E D h k =
+    (k : ℕ) → rel (after-months (count-month round) Ps X k * (S ^ (2 * length Ps) * D)) (after-months exact-count-month Ps E k)
+unfolding after-months
+after-months-encloses {rel} {round} d [] X E D h k = rw (pow-zero S, one-mul D) (h k)
+after-months-encloses {rel} {round} d (P ∷ Ps) X E D h k =
     rw (pow-two-more S (length Ps), more (S ^ (2 * length Ps)))
-    (counted-encloses d Ps (count-month round P X) (exact-count-month P E) (S * (S * D)) (count-month-encloses d P X E D h) k)
+    (after-months-encloses d Ps (count-month round P X) (exact-count-month P E) (S * (S * D)) (count-month-encloses d P X E D h) k)
   where
     more : (B : ℕ) → S * (S * B) * D ≡ B * (S * (S * D))
     more B = rw (mul-assoc S (S * B) D, mul-assoc S B D, mul-left-comm B S (S * D), mul-left-comm B S D)
 
-counted-fit :
+after-months-fit :
     (round : Rounding) → Within round → (Ps : List ℕ) → ((i : ℕ) → getD Ps i 0 ≤ S) → (X : Row) → ((k : ℕ) → X k ≤ S) →
-    (k : ℕ) → counted (count-month round) Ps X k ≤ S
-unfolding counted
-counted-fit round within [] hP X h = h
-counted-fit round within (P ∷ Ps) hP X h =
-    counted-fit round within Ps (λ i. hP (suc i)) (count-month round P X) (λ k. count-month-fits round within P (hP 0) X h k .value)
+    (k : ℕ) → after-months (count-month round) Ps X k ≤ S
+unfolding after-months
+after-months-fit round within [] hP X h = h
+after-months-fit round within (P ∷ Ps) hP X h =
+    after-months-fit round within Ps (λ i. hP (suc i)) (count-month round P X) (λ k. count-month-fits round within P (hP 0) X h k .value)
 
-counted-gap :
+after-months-gap :
     (Ps : List ℕ) → ((i : ℕ) → getD Ps i 0 ≤ S) → (X X′ : Row) (g : ℕ) → ((k : ℕ) → X′ k ≤ X k + g) →
-    (k : ℕ) → counted (count-month up) Ps X′ k ≤ counted (count-month down) Ps X k + (g + month-gap * live-months Ps)
-unfolding counted
-counted-gap [] hP X X′ g h k = omega (arith, h k)
-counted-gap (zero ∷ Ps) hP X X′ g h k =
+    (k : ℕ) → after-months (count-month up) Ps X′ k ≤ after-months (count-month down) Ps X k + (g + month-gap * live-months Ps)
+unfolding after-months
+after-months-gap [] hP X X′ g h k = omega (arith, h k)
+after-months-gap (zero ∷ Ps) hP X X′ g h k =
     rw live-months-idle
-    (counted-gap Ps (λ i. hP (suc i)) (count-month down 0 X) (count-month up 0 X′) g (count-gap-idle X X′ g h) k)
-counted-gap (suc P ∷ Ps) hP X X′ g h k =
+    (after-months-gap Ps (λ i. hP (suc i)) (count-month down 0 X) (count-month up 0 X′) g (count-gap-idle X X′ g h) k)
+after-months-gap (suc P ∷ Ps) hP X X′ g h k =
     rw live-months-live
     (omega (
       arith,
-      counted-gap Ps (λ i. hP (suc i)) (count-month down (suc P) X) (count-month up (suc P) X′) (g + 1) (count-gap-live (suc P) (hP 0) X X′ g h) k,
+      after-months-gap Ps (λ i. hP (suc i)) (count-month down (suc P) X) (count-month up (suc P) X′) (g + 1) (count-gap-live (suc P) (hP 0) X X′ g h) k,
     ))
 
 -- two exact months can be taken in either order
@@ -138,11 +138,11 @@ months-commute P Q X zero = simp (mul-zero, zero-add) (simp (mul-zero, zero-mul,
 months-commute P Q X (suc k) = swap P (S - P) Q (S - Q) (one-before X k) (X k) (X (suc k))
 
 -- so the first month can be taken last
-counted-first : (P : ℕ) (Ps : List ℕ) (X : Row) → counted exact-count-month Ps (exact-count-month P X) ≡ exact-count-month P (counted exact-count-month Ps X)
-unfolding counted
-counted-first P [] X = refl
-counted-first P (Q ∷ Ps) X =
-    ap (counted exact-count-month Ps) (fun-ext (months-commute Q P X)) ∙ counted-first P Ps (exact-count-month Q X)
+after-months-first : (P : ℕ) (Ps : List ℕ) (X : Row) → after-months exact-count-month Ps (exact-count-month P X) ≡ exact-count-month P (after-months exact-count-month Ps X)
+unfolding after-months
+after-months-first P [] X = refl
+after-months-first P (Q ∷ Ps) X =
+    ap (after-months exact-count-month Ps) (fun-ext (months-commute Q P X)) ∙ after-months-first P Ps (exact-count-month Q X)
 
 none : (k : ℕ) → no-months k ≡ cond (has-claims k []) 1 0 * S
 unfolding no-months has-claims claims count
@@ -196,21 +196,21 @@ module _ (F : List ℕ) (tail : ℕ) (whole : total F + tail ≡ S) where
       sizes x = ap (λ (y : ℕ). nth F x * y) (claimed-weigh Ps (claim x) refl k)
 
   -- the unrounded count row weighs the histories, in parts of S
-  counted-weigh : (Ps : List ℕ) (k : ℕ) → counted exact-count-month Ps no-months k ≡ weigh F tail Ps (has-claims k) * S
-  unfolding counted
-  counted-weigh [] k = rw (weigh-end F tail (has-claims k)) (none k)
-  counted-weigh (P ∷ Ps) k =
-      ap (λ (X : Row). X k) (counted-first P Ps no-months)
-      ∙ ap (λ (X : Row). exact-count-month P X k) (fun-ext (counted-weigh Ps))
+  after-months-weigh : (Ps : List ℕ) (k : ℕ) → after-months exact-count-month Ps no-months k ≡ weigh F tail Ps (has-claims k) * S
+  unfolding after-months
+  after-months-weigh [] k = rw (weigh-end F tail (has-claims k)) (none k)
+  after-months-weigh (P ∷ Ps) k =
+      ap (λ (X : Row). X k) (after-months-first P Ps no-months)
+      ∙ ap (λ (X : Row). exact-count-month P X k) (fun-ext (after-months-weigh Ps))
       ∙ exact-count-times P (λ j. weigh F tail Ps (has-claims j)) S k
       ∙ ap (λ (y : ℕ). y * S) (sym (weigh-count-month P Ps k))
 
 -- The unrounded count row is W at every place, in parts of S.
 pub unrounded-count-is-exact :
     (p : Plan) → total (p .severity) + p .tail ≡ S →
-    (k : ℕ) → counted exact-count-month (p .chances) no-months k ≡ exact-count p k * S
+    (k : ℕ) → after-months exact-count-month (p .chances) no-months k ≡ exact-count p k * S
 unfolding exact-count
-unrounded-count-is-exact p whole k = rw weight-is (counted-weigh (p .severity) (p .tail) whole (p .chances) k)
+unrounded-count-is-exact p whole k = rw weight-is (after-months-weigh (p .severity) (p .tail) whole (p .chances) k)
 
 no-months-fit : (k : ℕ) → no-months k ≤ S
 unfolding no-months
@@ -219,20 +219,20 @@ no-months-fit (suc k) = omega arith
 
 pub count-row-encloses :
     {rel : ℕ → ℕ → Type 0} {round : Rounding} (d : Direction rel round) (Ps : List ℕ) (k : ℕ) →
-    rel (count-row round Ps k * S ^ (2 * length Ps)) (counted exact-count-month Ps no-months k)
+    rel (count-row round Ps k * S ^ (2 * length Ps)) (after-months exact-count-month Ps no-months k)
 unfolding count-row
 count-row-encloses d Ps k =
-    rw mul-one at (counted-encloses d Ps no-months no-months 1 (λ j. rw mul-one (d .same (no-months j))) k)
+    rw mul-one at (after-months-encloses d Ps no-months no-months 1 (λ j. rw mul-one (d .same (no-months j))) k)
 
 pub count-row-fits :
     (round : Rounding) → Within round → (Ps : List ℕ) → ((i : ℕ) → getD Ps i 0 ≤ S) → (k : ℕ) → count-row round Ps k ≤ S
 unfolding count-row
-count-row-fits round within Ps hP = counted-fit round within Ps hP no-months no-months-fit
+count-row-fits round within Ps hP = after-months-fit round within Ps hP no-months no-months-fit
 
 pub count-row-gap :
     (Ps : List ℕ) → ((i : ℕ) → getD Ps i 0 ≤ S) → (k : ℕ) → count-row up Ps k ≤ count-row down Ps k + month-gap * live-months Ps
 unfolding count-row
-count-row-gap Ps hP k = rw zero-add at (counted-gap Ps hP no-months no-months 0 (λ j. omega arith) k)
+count-row-gap Ps hP k = rw zero-add at (after-months-gap Ps hP no-months no-months 0 (λ j. omega arith) k)
 
 -- a row that is 0 above a place is 0 above the next place after a month …
 above-month :
@@ -242,13 +242,13 @@ unfolding count-month one-before
 above-month round none P j X h zero l = absurd (omega arith)
 above-month round none P j X h (suc k) l = rw (h k (omega arith), h (suc k) (omega arith), mul-zero P, mul-zero (S - P)) none
 
-counted-above :
+after-months-above :
     (round : Rounding) → round 0 ≡ 0 → (Ps : List ℕ) (j : ℕ) (X : Row) → ((k : ℕ) → j < k → X k ≡ 0) →
-    (k : ℕ) → j + length Ps < k → counted (count-month round) Ps X k ≡ 0
-unfolding counted
-counted-above round none [] j X h k l = h k (omega arith)
-counted-above round none (P ∷ Ps) j X h k l =
-    counted-above round none Ps (suc j) (count-month round P X) (above-month round none P j X h) k (omega arith)
+    (k : ℕ) → j + length Ps < k → after-months (count-month round) Ps X k ≡ 0
+unfolding after-months
+after-months-above round none [] j X h k l = h k (omega arith)
+after-months-above round none (P ∷ Ps) j X h k l =
+    after-months-above round none Ps (suc j) (count-month round P X) (above-month round none P j X h) k (omega arith)
 
 nothing-above : (k : ℕ) → 0 < k → no-months k ≡ 0
 unfolding no-months
@@ -258,4 +258,4 @@ nothing-above (suc k) l = refl
 -- … so after n months it is 0 above n
 pub count-row-above : (round : Rounding) → round 0 ≡ 0 → (Ps : List ℕ) (k : ℕ) → length Ps < k → count-row round Ps k ≡ 0
 unfolding count-row
-count-row-above round none Ps k l = counted-above round none Ps 0 no-months nothing-above k (omega arith)
+count-row-above round none Ps k l = after-months-above round none Ps 0 no-months nothing-above k (omega arith)

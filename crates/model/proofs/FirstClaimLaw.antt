@@ -2,7 +2,7 @@
 use mathlib.Core.Path.{_≡_, refl, sym, _∙_, ap, ap₂, fun-ext}
 use mathlib.Core.List.{List, [], _∷_}
 use Prim.Native.Nat.{ℕ, zero, suc, _+_, _*_, _-_, _^_, _≤_, _<_}
-use native.Mathlib.Nat.{mul-add, add-mul, mul-assoc, mul-comm, mul-left-comm, mul-mul-mul-comm, mul-one, one-mul, zero-mul, mul-sub, sub-add-cancel, pow-zero, pow-succ', min-comm, le-refl}
+use native.Mathlib.Nat.{mul-add, add-mul, mul-assoc, mul-comm, mul-left-comm, mul-mul-mul-comm, mul-one, one-mul, zero-mul, mul-sub, mul-le-mul-left, sub-add-cancel, pow-zero, pow-succ', min-comm, le-refl}
 use native.Mathlib.Omega.{arith}
 use lib.ListN.{length, getD, drop, length-drop, List·getD-eq-default}
 use lib.Seq.{getD-drop}
@@ -105,6 +105,20 @@ some-claim-month P Ps =
         rw (first-claim-later P Ps i, ap (λ (e : ℕ). S ^ e) (exponent i l) ∙ pow-succ' S (2 * n - suc i))
         (mul-mul-mul-comm (S - P) (first-claim-in Ps (suc i)) S (S ^ (2 * n - suc i)))
 
+-- the chance that a claim comes is at most 1
+pub some-claim-fits : (Ps : List ℕ) → ((i : ℕ) → getD Ps i 0 ≤ S) → some-claim Ps ≤ S ^ (2 * length Ps)
+unfolding some-claim sum
+some-claim-fits [] hP = rw (pow-zero S) (omega arith)
+some-claim-fits (P ∷ Ps) hP =
+    rw (some-claim-month P Ps, pow-two-more S (length Ps))
+    (omega (
+      arith,
+      mul-le-mul-left ((S - P) * S) (some-claim-fits Ps (λ i. hP (suc i))),
+      mul-assoc (S - P) S (S ^ (2 * length Ps)),
+      add-mul (S - P) P (S * S ^ (2 * length Ps)),
+      ap (λ (y : ℕ). y * (S * S ^ (2 * length Ps))) (sub-add-cancel (hP 0)),
+    ))
+
 -- 1 less that sum, multiplied by S^(2n)
 no-claim : List ℕ → ℕ
 no-claim Ps = S ^ (2 * length Ps) - some-claim Ps
@@ -182,7 +196,7 @@ first-claim-is F (suc turns) Ps l hP u =
     shorter i = rw length-drop (omega arith)
 
 -- Theorem 2.1, both sides multiplied by S^(2n) and the rule's value in parts of S
-pub unrounded-is-first-claim :
+pub survive-is-first-claim :
     (p : Plan) → ((i : ℕ) → getD (p .chances) i 0 ≤ S) → value (exact-month (p .severity)) p Survive ≡ first-claim-survival p * S
 unfolding value claims-of first-claim-survival survival
-unrounded-is-first-claim p hP = sym (first-claim-is (p .severity) (length (p .chances)) (p .chances) (le-refl _) hP (p .opening))
+survive-is-first-claim p hP = sym (first-claim-is (p .severity) (length (p .chances)) (p .chances) (le-refl _) hP (p .opening))

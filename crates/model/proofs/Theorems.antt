@@ -18,7 +18,7 @@ use Rattle.model.specs.Plan.{Plan, plan-of, horizon, sizes, nth}
 use Rattle.model.specs.History.{History, claim, known, at-least, at-most}
 use Rattle.model.specs.Exact.{path-from, survives, weight-of, exact, exact-count}
 use Rattle.model.specs.MonthRule.{Row, month, exact-month, kept, claimed-row, values, value, rule-of, last-of, claims-of}
-use Rattle.model.specs.CountRow.{count-row, exact-count-month, counted, no-months}
+use Rattle.model.specs.CountRow.{count-row, exact-count-month, after-months, no-months}
 use Rattle.model.specs.FirstClaim.{some-claim, first-claim-survival}
 use Rattle.model.specs.Bounds.{bound, lower, upper, count-lower, count-upper, live-months, month-gap, Encloses, MonthLimits, CountLimits}
 use Rattle.model.specs.Refusal.{Accepted}
@@ -29,7 +29,7 @@ use Rattle.model.proofs.Values.{values-enclose, values-fit, values-gap,
 use Rattle.model.proofs.Histories.{weight-is, weigh-all}
 use Rattle.model.proofs.Questions.{unrounded-is-exact}
 use Rattle.model.proofs.Counts.{unrounded-count-is-exact, count-month-fits, count-row-encloses, count-row-fits, count-row-gap, count-row-above}
-use Rattle.model.proofs.FirstClaimLaw.{no-claim-is, unrounded-is-first-claim}
+use Rattle.model.proofs.FirstClaimLaw.{some-claim-fits, no-claim-is, survive-is-first-claim}
 use Rattle.model.proofs.Tail.{ruins-then, all-fails}
 
 -- the rows that month t reads, by the claims left
@@ -50,8 +50,8 @@ positive : (n : ℕ) → 0 < S ^ n
 positive n = one-le-pow n S scale-positive
 
 -- the lower bound is at most the upper one
-ordered : {p : Plan} {counted : List ℕ} {W low high : ℕ} → Encloses p counted W low high → low ≤ high
-ordered {p} {counted} {W} {low} {high} e = le-of-mul-le-mul-right (le-trans (e .below) (e .above)) (positive (2 * horizon p))
+ordered : {p : Plan} {gap-months : List ℕ} {W low high : ℕ} → Encloses p gap-months W low high → low ≤ high
+ordered {p} {gap-months} {W} {low} {high} e = le-of-mul-le-mul-right (le-trans (e .below) (e .above)) (positive (2 * horizon p))
 
 module _ (h : Head) (row : List ℕ) (accepted : Accepted h row) where
   abbrev p : Plan
@@ -74,14 +74,22 @@ module _ (h : Head) (row : List ℕ) (accepted : Accepted h row) where
   unrounded q = unrounded-is-exact p q
 
   -- … so is each place of the count row …
-  pub unrounded-count : (k : ℕ) → counted exact-count-month (p .chances) no-months k ≡ exact-count p k * S
+  pub unrounded-count : (k : ℕ) → after-months exact-count-month (p .chances) no-months k ≡ exact-count p k * S
   unrounded-count k = unrounded-count-is-exact p (facts h row accepted .weights-add) k
 
-  -- … and survival is the published first-claim recursion.
+  -- … and survival is the published first-claim recursion: "With rounding left out … survive equals the recursion of source document 000, Theorem 2.1" …
+  pub unrounded-is-first-claim : value (exact-month (p .severity)) p Survive ≡ first-claim-survival p * S
+  unrounded-is-first-claim = survive-is-first-claim p chances-fit
+
+  -- … so W is, too.
   pub survival-is-first-claim : exact p Survive ≡ first-claim-survival p
   survival-is-first-claim =
       eq-of-mul-eq-mul-right S scale-positive (exact p Survive) (first-claim-survival p)
-      (sym (unrounded Survive) ∙ unrounded-is-first-claim p chances-fit)
+      (sym (unrounded Survive) ∙ unrounded-is-first-claim)
+
+  -- the recursion's last term is never cut off at 0: the sum over first-claim months does not pass 1, in all months and in those after a claim in month t
+  pub first-claims-fit : (t : ℕ) → some-claim (drop t (p .chances)) ≤ S ^ (2 * length (drop t (p .chances)))
+  first-claims-fit t = some-claim-fits (drop t (p .chances)) (λ i. rw getD-drop (chances-fit (t + i)))
 
   -- the recursion's last term, 1 less the sum over first-claim months, is the product of the no-claim chances
   pub last-term :

@@ -34,14 +34,14 @@ live-months chances = count (λ P. ltb 0 P) chances
 abbrev pub month-gap : ℕ
 month-gap = 2
 
--- Demand 3 of two numbers low and high, and the weight W of the histories that keep a condition; `counted` are the chances of the months that the gap
+-- Demand 3 of two numbers low and high, and the weight W of the histories that keep a condition; `gap-months` are the chances of the months that the gap
 -- rule counts: all of the plan's, for a question and for a place of the count row
-pub record Encloses (p : Plan) (counted : List ℕ) (W low high : ℕ) : Type 0 where
+pub record Encloses (p : Plan) (gap-months : List ℕ) (W low high : ℕ) : Type 0 where
   -- "Enclosure: lower × S^(2n) ≤ W × S ≤ upper × S^(2n)"
   pub below : low * S ^ (2 * horizon p) ≤ W * S
   pub above : W * S ≤ high * S ^ (2 * horizon p)
   -- "Gap rule: upper ≤ lower + 2 × Z"
-  pub gap : high ≤ low + month-gap * live-months counted
+  pub gap : high ≤ low + month-gap * live-months gap-months
 
 -- "No product or sum here passes 2^60 + 2^30."
 unfoldable pub largest : ℕ

@@ -23,13 +23,13 @@ no-months zero = S
 no-months (suc k) = 0
 
 -- the months in their order
-unfoldable pub counted : (ℕ → Row → Row) → List ℕ → Row → Row
-counted one-month [] row = row
-counted one-month (P ∷ later) row = counted one-month later (one-month P row)
+unfoldable pub after-months : (ℕ → Row → Row) → List ℕ → Row → Row
+after-months one-month [] row = row
+after-months one-month (P ∷ later) row = after-months one-month later (one-month P row)
 
 -- the count row of a plan's chances
 unfoldable pub count-row : Rounding → List ℕ → Row
-count-row round chances = counted (count-month round) chances no-months
+count-row round chances = after-months (count-month round) chances no-months
 
 -- a row's values at the places 0 to n − 1, as they lie in memory
 unfoldable pub tabulate : ℕ → Row → List ℕ

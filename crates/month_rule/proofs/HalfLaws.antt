@@ -11,9 +11,19 @@ use Rattle.model.specs.Scale.{S}
 use Rattle.model.specs.MonthRule.{all-placed}
 use Rattle.month_rule.specs.declared.rows.Shape.{Shape}
 use Rattle.month_rule.specs.Rows.{Parts}
-use Rattle.month_rule.specs.Shapes.{rows-size, values-in}
+use Rattle.month_rule.specs.Shapes.{rows-size, values-in, RowsIn, HalvesIn}
+use Rattle.month_rule.proofs.RowLaws.{parts-part, parts-drop}
 use Rattle.month_rule.proofs.ForbidLaws.{getD-zeros}
 use Rattle.month_rule.proofs.ManyRows.{parts-append, parts-put, put-before, put-in, row-before-row}
+
+-- each half holds the rows of the shape
+pub lower-rows : (shape : Shape) (xs : List ℕ) → HalvesIn shape xs → RowsIn shape (take (rows-size shape) xs)
+lower-rows shape xs h =
+    record { some = h .some; size = length-take-le (rows-size shape) xs (omega (arith, h .size)); parts = parts-part xs 0 (rows-size shape) (h .parts) }
+
+pub upper-rows : (shape : Shape) (xs : List ℕ) → HalvesIn shape xs → RowsIn shape (drop (rows-size shape) xs)
+upper-rows shape xs h =
+    record { some = h .some; size = omega (arith, h .size, length-drop (rows-size shape) xs); parts = parts-drop xs (rows-size shape) (h .parts) }
 
 -- the list after its first half came back as `front` and its second as `back`
 module _ (xs front back : List ℕ) (half : ℕ) (whole : length xs ≡ 2 * half) (front-is : length front ≡ length (take half xs)) where

@@ -1,12 +1,12 @@
 -- Laws that the functions' proofs cite.
 -- one value
-pub mod MonthLaws
+pub mod ValueLaws
 -- one row in memory, its forbidden levels, and several rows of one width
 pub mod RowLaws
 mod ForbidLaws
 pub mod ManyRows
 -- all rows through one month, and through all months
-mod BackLaws
-pub mod MonthsLaws
+mod OneMonth
+pub mod AllMonths
 -- the two halves of a workspace
 mod HalfLaws

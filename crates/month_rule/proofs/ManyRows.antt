@@ -17,8 +17,8 @@ use Rattle.model.specs.Scale.{S}
 use Rattle.model.specs.MonthRule.{Row, kept}
 use Rattle.month_rule.specs.declared.rows.Shape.{Shape}
 use Rattle.month_rule.specs.Rows.{at, Parts, between}
-use Rattle.month_rule.specs.Shapes.{values-in}
-use Rattle.month_rule.proofs.MonthLaws.{below-or-not}
+use Rattle.month_rule.specs.Shapes.{row-with, values-in, RowsIn, allowed-places}
+use Rattle.month_rule.proofs.ValueLaws.{below-or-not}
 use Rattle.month_rule.proofs.RowLaws.{parts-part}
 use Rattle.month_rule.proofs.ForbidLaws.{getD-past}
 
@@ -76,6 +76,10 @@ pub parts-put : (xs ys : List ℕ) (a n : ℕ) → Parts xs → Parts ys → Par
 parts-put xs ys a n hx hy =
     parts-append (take a xs) (ys ++ postOf a n xs) (parts-part xs 0 a hx)
     (parts-append ys (postOf a n xs) hy (record { each = λ k. rw (getD-drop n (drop a xs) k 0, getD-drop a xs (n + k) 0) (hx .each (a + (n + k))) }))
+
+-- rows that were rewritten in place
+pub rows-in-again : (shape : Shape) (xs ys : List ℕ) → RowsIn shape xs → length ys ≡ length xs → Parts ys → RowsIn shape ys
+rows-in-again shape xs ys h same parts = record { some = h .some; size = same ∙ h .size; parts = parts }
 
 -- Rows forbidden one after the other, from the first: `done` of the rows passed, `rest` of the others.
 pub record Forbidding (old : List ℕ) (width first last : ℕ) (rows : List ℕ) (j : ℕ) : Type 0 where
@@ -166,14 +170,24 @@ between-places low above top s l = ap₂ (λ (a b : Bool). a && b) first last �
     and-comm false true = refl
     and-comm false false = refl
 
--- all rows forbidden, by the claims left and the level
+-- all rows forbidden, by the claims left
 pub forbidden-in :
-    (shape : Shape) (top : ℕ) → top < shape .width → (old rows : List ℕ) (first last j : ℕ) → shape .rows ≤ j →
+    (shape : Shape) (top : ℕ) (old rows : List ℕ) (first last j : ℕ) → shape .rows ≤ j →
     first ≡ top + 1 - shape .above → last ≡ top + 1 - shape .low → Forbidding old (shape .width) first last rows j →
+    (k : ℕ) → k < shape .rows → (i : ℕ) → i < shape .width → at (row-with shape rows k) i ≡ kept (allowed-places shape top) (at (row-with shape old k)) i
+unfolding kept
+forbidden-in shape top old rows first last j all ef el h k l i m =
+    let same : between first last i ≡ allowed-places shape top i = rw (ef, el) in
+    h .done (shape .rows - 1 - k) (omega arith) i m
+    ∙ ap (λ (b : Bool). cond b (at (row-with shape old k) i) 0) same
+
+-- and by the level
+pub forbidden-levels :
+    (shape : Shape) (top : ℕ) → top < shape .width → (old rows : List ℕ) →
+    ((k : ℕ) → k < shape .rows → (i : ℕ) → i < shape .width → at (row-with shape rows k) i ≡ kept (allowed-places shape top) (at (row-with shape old k)) i) →
     (k : ℕ) → k < shape .rows → (s : ℕ) → s ≤ top →
     values-in shape top rows k s ≡ kept (between (shape .low) (shape .above)) (values-in shape top old k) s
 unfolding kept
-forbidden-in shape top fits old rows first last j all ef el h k l s m =
-    let same : between first last (top - s) ≡ between (shape .low) (shape .above) s = rw (ef, el) (between-places (shape .low) (shape .above) top s m) in
-    h .done (shape .rows - 1 - k) (omega arith) (top - s) (omega arith)
-    ∙ ap (λ (b : Bool). cond b (values-in shape top old k s) 0) same
+forbidden-levels shape top fits old rows h k l s m =
+    h k l (top - s) (omega arith)
+    ∙ ap (λ (b : Bool). cond b (values-in shape top old k s) 0) (between-places (shape .low) (shape .above) top s m)

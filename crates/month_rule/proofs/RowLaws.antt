@@ -12,7 +12,7 @@ use Rattle.model.specs.Levels.{gain}
 use Rattle.model.specs.MonthRule.{Row, claim-sum, month}
 use Rattle.model.proofs.LevelLaws.{gain-some}
 use Rattle.model.proofs.Month.{claim-sum-none, claim-sum-ground, claim-sum-cons}
-use Rattle.month_rule.specs.Rows.{from-top, Parts, round-by}
+use Rattle.month_rule.specs.Rows.{from-top, Parts, Replaced, round-by}
 
 -- the claim sum reads the levels above 0 and below its own
 pub claim-sum-agree :
@@ -54,17 +54,19 @@ parts-part xs a n h = record { each = λ k. le-trans (getD-take-le n (drop a xs)
 pub fill-whole : (xs : List ℕ) (i v : ℕ) → i ≤ length xs → length xs ≤ i → replicate i v ++ drop i xs ≡ replicate (length xs) v
 fill-whole xs i v l m = let all : i ≡ length xs = omega arith in rw (drop-of-length-le xs m, append-nil, all)
 
--- The rows while one of them goes back, upward from its first place at `from`: the places passed are new, the rest is old.
+-- The rows while one of them goes back, upward from its first place at `from`: the first i places are new, the rest is old.
 pub record Rewriting (old : List ℕ) (from : ℕ) (new : Row) (rows : List ℕ) (i : ℕ) : Type 0 where
   pub same-length : length rows ≡ length old
   pub parts : Parts rows
-  pub done : (j : ℕ) → j < i → getD rows (from + j) 0 ≡ new j
-  pub before : (k : ℕ) → k < from → getD rows k 0 ≡ getD old k 0
-  pub after : (k : ℕ) → from + i ≤ k → getD rows k 0 ≡ getD old k 0
+  pub so-far : Replaced from i new old rows
 
 pub rewriting-start : (old : List ℕ) (from : ℕ) (new : Row) → Parts old → Rewriting old from new old 0
 rewriting-start old from new h =
-    record { same-length = refl; parts = h; done = λ j l. absurd (omega arith); before = λ k l. refl; after = λ k l. refl }
+    record {
+      same-length = refl;
+      parts = h;
+      so-far = record { inside = λ j l. absurd (omega arith); earlier = λ k l. refl; later = λ k l. refl };
+    }
 
 pub rewriting-turn :
     (old : List ℕ) (from : ℕ) (new : Row) (rows : List ℕ) (i v : ℕ) → Rewriting old from new rows i → from + i < length rows → v ≡ new i → v ≤ S →
@@ -73,13 +75,18 @@ rewriting-turn old from new rows i v h l e b =
     record {
       same-length = simp length-set (h .same-length);
       parts = parts-set rows (from + i) v (h .parts) b;
-      done = below-more (λ (j : ℕ). getD (set rows (from + i) v) (from + j) 0 ≡ new j) i passed (getD-set-same rows (from + i) v 0 l ∙ e);
-      before = λ k m. getD-set-other rows (from + i) k v 0 (λ z. omega (arith, z)) ∙ h .before k m;
-      after = λ k m. getD-set-other rows (from + i) k v 0 (λ z. omega (arith, z)) ∙ h .after k (omega arith);
+      so-far = record {
+        inside = below-more (λ (j : ℕ). getD (set rows (from + i) v) (from + j) 0 ≡ new j) i passed (getD-set-same rows (from + i) v 0 l ∙ e);
+        earlier = λ k m. others k (λ z. omega (arith, z)) ∙ h .so-far .earlier k m;
+        later = λ k m. others k (λ z. omega (arith, z)) ∙ h .so-far .later k (omega arith);
+      };
     }
   where
+    others : (k : ℕ) → ¬ (k ≡ from + i) → getD (set rows (from + i) v) k 0 ≡ getD rows k 0
+    others k other = getD-set-other rows (from + i) k v 0 other
+
     passed : (j : ℕ) → j < i → getD (set rows (from + i) v) (from + j) 0 ≡ new j
-    passed j m = getD-set-other rows (from + i) (from + j) v 0 (λ z. omega (arith, z)) ∙ h .done j m
+    passed j m = others (from + j) (λ z. omega (arith, z)) ∙ h .so-far .inside j m
 
 -- a row of levels, and the places of a row one month back: after a claim the row at `claimed` is read, else the row at `quiet`
 abbrev pub row-before : ℕ → List ℕ → ℕ → ℕ → ℕ → ℕ → ℕ → List ℕ → Row
@@ -107,7 +114,7 @@ module _ (old F : List ℕ) (quiet claimed top live P bias : ℕ) (order : quiet
           (getD-take (claimed + top - (claimed + i + 1)) (drop (claimed + i + 1) rows) (n - s) 0 (omega arith)
           ∙ getD-drop (claimed + i + 1) rows (n - s) 0
           ∙ ap (λ (k : ℕ). getD rows k 0) place
-          ∙ h .after (claimed + (top - s)) (omega arith)
+          ∙ h .so-far .later (claimed + (top - s)) (omega arith)
           ∙ sym (getD-drop claimed old (top - s) 0))
 
   pub value-before :

@@ -1,11 +1,13 @@
 -- Rows of values in memory, and the words of the contracts on them.
-use Prim.Native.Nat.{ℕ, zero, suc, _+_, _-_, _/_, _≤_}
+use Prim.Native.Nat.{ℕ, zero, suc, _+_, _-_, _/_, _<_, _≤_}
+use mathlib.Core.Path.{_≡_}
 use mathlib.Core.Bool.{Bool, _&&_, cond}
 use mathlib.Core.List.{List}
 use mathlib.Core.Option.{Option, none, some}
 use lib.Dec.{leb, ltb}
 use lib.ListN.{getD}
 use Rattle.model.specs.Scale.{S, Rounding}
+use Rattle.model.specs.Sums.{total}
 use Rattle.model.specs.MonthRule.{Row}
 
 -- a list as a row: the index is the place
@@ -20,6 +22,24 @@ from-top top xs s = getD xs (top - s) 0
 pub record Parts (xs : List ℕ) : Type 0 where
   pub each : (k : ℕ) → getD xs k 0 ≤ S
 
+-- What a month takes beside its rows: weights that add up to at most S, a chance, and a bias to round with.
+pub record MonthTerms (severity : List ℕ) (chance bias : ℕ) : Type 0 where
+  pub weights-fit : total severity ≤ S
+  pub chance-fits : chance ≤ S
+  pub bias-fits : bias < S
+
+-- what all months take
+pub record PlanTerms (severity chances : List ℕ) (bias : ℕ) : Type 0 where
+  pub weights-fit : total severity ≤ S
+  pub chances-fit : Parts chances
+  pub bias-fits : bias < S
+
+-- So many places from `from` on hold new values, and all others what they held.
+pub record Replaced (from count : ℕ) (new : Row) (before after : List ℕ) : Type 0 where
+  pub inside : (i : ℕ) → i < count → at after (from + i) ≡ new i
+  pub earlier : (k : ℕ) → k < from → at after k ≡ at before k
+  pub later : (k : ℕ) → from + count ≤ k → at after k ≡ at before k
+
 -- a division by S that rounds down at bias 0 and up at bias S − 1
 unfoldable pub round-by : ℕ → Rounding
 round-by bias x = (x + bias) / S
@@ -30,9 +50,9 @@ between low above s = leb low s && ltb s above
 
 -- The claims left after one more claim. Where claims are not counted there is one row, which every claim comes back to.
 unfoldable pub after-claim-by : Bool → ℕ → Option ℕ
-after-claim-by counted zero = cond counted none (some 0)
-after-claim-by counted (suc k) = some k
+after-claim-by tallied zero = cond tallied none (some 0)
+after-claim-by tallied (suc k) = some k
 
 -- the sizes that a claim may have in the row with no claims left
 unfoldable pub own-sizes : Bool → ℕ → ℕ
-own-sizes counted sizes = cond counted 0 sizes
+own-sizes tallied sizes = cond tallied 0 sizes

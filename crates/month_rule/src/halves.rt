@@ -8,12 +8,12 @@ ghost use Rattle.model.specs.Sums.{total};
 ghost use Rattle.model.specs.Levels.{largest-level};
 ghost use Rattle.model.specs.MonthRule.{all-placed};
 ghost use Rattle.month_rule.specs.Rows.{Parts};
-ghost use Rattle.month_rule.specs.Shapes.{rows-size, values-in, TakenBack};
-use crate::month::ROUND_DOWN;
-use crate::month::ROUND_UP;
-use crate::months::months_back;
+ghost use Rattle.month_rule.specs.Shapes.{rows-size, values-in, HalvesIn, TakenBack};
+use crate::months::all_months_back;
 use crate::rows::Shape;
 use crate::rows::fill;
+use crate::value::ROUND_DOWN;
+use crate::value::ROUND_UP;
 
 // A lower and an upper bound in parts of S.
 pub struct Bounds {
@@ -57,17 +57,16 @@ pub fn halves_back(
     chances: &[u32],
     severity: &[u32],
 )
-    requires { ⌜ (0 < shape .rows) × (largest-level opening (length (now chances)) < shape .width) × (length (now halves) ≡ 2 * rows-size shape) ⌝ }
-    requires { ⌜ Parts (now halves) ⌝ }
-    requires { ⌜ Parts (now chances) ⌝ }
-    requires { ⌜ total (now severity) ≤ S ⌝ }
+    requires { ⌜ HalvesIn shape (now halves) ⌝ }
+    requires { ⌜ largest-level opening (length (now chances)) < shape .width ⌝ }
+    requires { ⌜ (total (now severity) ≤ S) × Parts (now chances) ⌝ }
     ensures lower { λ _.
         ⌜ TakenBack down (now (severity .entry)) shape opening (now (chances .entry)) (take (rows-size shape) (now (halves .entry))) (take (rows-size shape) (now (halves .exit))) ⌝ }
     ensures upper { λ _.
         ⌜ TakenBack up (now (severity .entry)) shape opening (now (chances .entry)) (drop (rows-size shape) (now (halves .entry))) (drop (rows-size shape) (now (halves .exit))) ⌝ }
 {
     let half = shape.rows * shape.width;
-    months_back(
+    all_months_back(
         &mut halves[..half],
         shape,
         opening,
@@ -75,7 +74,7 @@ pub fn halves_back(
         severity,
         ROUND_DOWN,
     );
-    months_back(
+    all_months_back(
         &mut halves[half..],
         shape,
         opening,

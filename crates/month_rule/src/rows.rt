@@ -1,16 +1,14 @@
 // Rows of values in lent memory. The place in a row is what has been paid in claims: a month without a claim keeps the place, a claim of size x
 // leads x places on. So a month reads a place and those beyond it, and rewrites a row in place going upward.
 ghost use mathlib.Core.Path.{_≡_};
-ghost use Prim.Native.Nat.{ℕ, _+_, _*_, _-_, _<_, _≤_};
-ghost use lib.ListN.{length, getD, drop, replicate};
-ghost use Rattle.model.specs.Scale.{S};
-ghost use Rattle.model.specs.Sums.{total};
+ghost use Prim.Native.Nat.{ℕ, _+_, _-_, _<_, _≤_};
+ghost use lib.ListN.{length, drop, replicate};
 ghost use Rattle.model.specs.Levels.{gain};
 ghost use Rattle.model.specs.MonthRule.{month, kept, claimed-row};
-ghost use Rattle.month_rule.specs.Rows.{at, from-top, Parts, round-by, between, own-sizes, after-claim-by};
-ghost use Rattle.month_rule.specs.Shapes.{rows-size, values-in};
-use crate::month::claim_sum;
-use crate::month::month_value;
+ghost use Rattle.month_rule.specs.Rows.{at, from-top, Parts, MonthTerms, Replaced, round-by, between, own-sizes, after-claim-by};
+ghost use Rattle.month_rule.specs.Shapes.{row-with, values-in, RowsIn, allowed-places};
+use crate::value::claim_sum;
+use crate::value::month_value;
 use model::GAIN;
 use numbers::difference;
 use numbers::lesser;
@@ -20,7 +18,7 @@ use numbers::lesser;
 pub struct Shape {
     pub rows: usize,
     pub width: usize,
-    pub counted: bool,
+    pub tallied: bool,
     pub low: usize,
     pub above: usize,
 }
@@ -49,15 +47,11 @@ pub fn row_back(
 )
     requires { ⌜ (quiet ≤ claimed) × (live + gain ≡ top + 1) × (claimed + top ≤ length (now rows)) ⌝ }
     requires { ⌜ Parts (now rows) ⌝ }
-    requires { ⌜ total (now severity) ≤ S ⌝ }
-    requires { ⌜ (chance ≤ S) × (bias < S) ⌝ }
+    requires { ⌜ MonthTerms (now severity) chance bias ⌝ }
     ensures rewritten { λ _.
-        ⌜ ((i : ℕ) → i < live →
-        getD (now (rows .exit)) (quiet + i) 0
-        ≡ month (round-by bias) (now (severity .entry)) chance (from-top top (drop quiet (now (rows .entry))))
-        (from-top top (drop claimed (now (rows .entry)))) (live - 1 - i)) ⌝ }
-    ensures before { λ _. ⌜ ((k : ℕ) → k < quiet → getD (now (rows .exit)) k 0 ≡ getD (now (rows .entry)) k 0) ⌝ }
-    ensures after { λ _. ⌜ ((k : ℕ) → quiet + live ≤ k → getD (now (rows .exit)) k 0 ≡ getD (now (rows .entry)) k 0) ⌝ }
+        ⌜ Replaced quiet live
+        (λ i. month (round-by bias) (now (severity .entry)) chance (from-top top (drop quiet (now (rows .entry)))) (from-top top (drop claimed (now (rows .entry)))) (live - 1 - i))
+        (now (rows .entry)) (now (rows .exit)) ⌝ }
     ensures parts { λ _. ⌜ Parts (now (rows .exit)) ⌝ }
 {
     let end = claimed + top;
@@ -83,11 +77,10 @@ fn forbid(row: &mut [u32], first: usize, last: usize)
 
 // Sets the forbidden levels of each row to 0, where place 0 holds the level `top`.
 pub fn forbid_rows(rows: &mut [u32], shape: Shape, top: usize)
-    requires { ⌜ (length (now rows) ≡ rows-size shape) × (top < shape .width) ⌝ }
-    requires { ⌜ Parts (now rows) ⌝ }
+    requires { ⌜ RowsIn shape (now rows) × (top < shape .width) ⌝ }
     ensures forbidden { λ _.
-        ⌜ ((k : ℕ) → k < shape .rows → (s : ℕ) → s ≤ top →
-        values-in shape top (now (rows .exit)) k s ≡ kept (between (shape .low) (shape .above)) (values-in shape top (now (rows .entry)) k) s) ⌝ }
+        ⌜ ((k : ℕ) → k < shape .rows → (i : ℕ) → i < shape .width →
+        at (row-with shape (now (rows .exit)) k) i ≡ kept (allowed-places shape top) (at (row-with shape (now (rows .entry)) k)) i) ⌝ }
     ensures parts { λ _. ⌜ Parts (now (rows .exit)) ⌝ }
 {
     let count = shape.rows;
@@ -103,16 +96,16 @@ pub fn forbid_rows(rows: &mut [u32], shape: Shape, top: usize)
     }
 }
 
-// How many sizes a claim may have in the row with no claims left: none if claims are counted.
-fn own_sizes(counted: bool, sizes: usize) -> usize
-    ensures { λ r. ⌜ r ≡ own-sizes counted sizes ⌝ }
+// How many sizes a claim may have in the row with no claims left: none if the rows are told apart by the claims left.
+fn own_sizes(tallied: bool, sizes: usize) -> usize
+    ensures { λ r. ⌜ r ≡ own-sizes tallied sizes ⌝ }
 {
-    if counted { 0 } else { sizes }
+    if tallied { 0 } else { sizes }
 }
 
 // All rows through one month, from place 0 at the level `top` to place 0 one gain below. A claim leads to the next row, with one claim fewer left: so
 // from the first row on.
-pub fn rows_back(
+pub fn all_rows_back(
     rows: &mut [u32],
     shape: Shape,
     top: usize,
@@ -120,18 +113,20 @@ pub fn rows_back(
     chance: u32,
     bias: u64,
 )
-    requires { ⌜ (0 < shape .rows) × (gain ≤ top) × (top < shape .width) × (length (now rows) ≡ rows-size shape) ⌝ }
-    requires { ⌜ Parts (now rows) ⌝ }
-    requires { ⌜ total (now severity) ≤ S ⌝ }
-    requires { ⌜ (chance ≤ S) × (bias < S) ⌝ }
+    requires { ⌜ RowsIn shape (now rows) ⌝ }
+    requires { ⌜ (gain ≤ top) × (top < shape .width) ⌝ }
+    requires { ⌜ MonthTerms (now severity) chance bias ⌝ }
     ensures rewritten { λ _.
         ⌜ ((k : ℕ) → k < shape .rows → (s : ℕ) → s + gain ≤ top →
         values-in shape (top - gain) (now (rows .exit)) k s
         ≡ month (round-by bias) (now (severity .entry)) chance (values-in shape top (now (rows .entry)) k)
-        (claimed-row (values-in shape top (now (rows .entry))) (after-claim-by (shape .counted) k)) s) ⌝ }
+        (claimed-row (values-in shape top (now (rows .entry))) (after-claim-by (shape .tallied) k)) s) ⌝ }
+    ensures beyond { λ _.
+        ⌜ ((k : ℕ) → k < shape .rows → (i : ℕ) → top < i + gain → i < shape .width →
+        at (row-with shape (now (rows .exit)) k) i ≡ at (row-with shape (now (rows .entry)) k) i) ⌝ }
     ensures parts { λ _. ⌜ Parts (now (rows .exit)) ⌝ }
 {
-    let counted = shape.counted;
+    let tallied = shape.tallied;
     let width = shape.width;
     let live = top + 1 - GAIN;
     let last = shape.rows - 1;
@@ -143,7 +138,7 @@ pub fn rows_back(
         j += 1;
     }
     let start = last * width;
-    let own = own_sizes(counted, severity.len());
+    let own = own_sizes(tallied, severity.len());
     row_back(
         rows,
         start,

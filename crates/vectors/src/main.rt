@@ -1,5 +1,5 @@
 // Holds the calls to expected values: reads a list of calls from standard input and writes a line for each, with what the call answered and
-// what it left in lent memory. docs/src/reference.py says how the list is laid out, and writes it and the lines expected.
+// what it left in lent memory. docs/src/records.py says how the list is laid out; docs/src/reference.py writes it and the lines expected.
 mod calls;
 mod format;
 mod record;

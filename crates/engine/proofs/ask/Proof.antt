@@ -13,7 +13,7 @@ use Rattle.model.proofs.Facts.{Facts, facts, accepted-head}
 use Rattle.model.proofs.Theorems.{enclosure}
 use Rattle.month_rule.specs.Shapes.{rows-size}
 use Rattle.engine.proofs.AskLaws.{shape-rows, shape-width, rows-few}
-use Rattle.engine.proofs.AnswerLaws.{Asked, asked, needed-halves, answer-refused, workspace-refused, answer-given, workspace-cleared, chances-parts, severity-fits, months-count, bound-is}
+use Rattle.engine.proofs.AnswerLaws.{Asked, asked, needed-halves, answer-refused, workspace-refused, answer-given, workspace-cleared, chances-parts, severity-fits, months-count, bound-is, encloses-as}
 use Rattle.engine.proofs.ask.Statement.{statement}
 use Rattle.engine.proofs.ask.Tie as tie
 
@@ -52,6 +52,15 @@ row-levels-requires c κs = head-fits (c .before .before)
 abbrev answered : tie.After-row-levels → tie.Else1
 answered c = c .before .before .before
 
+abbrev measured : tie.After-shape-of → tie.After-row-levels
+measured c = c .before
+
+abbrev shaped : tie.After-workspace-needed → tie.After-shape-of
+shaped c = c .before
+
+abbrev sized : tie.After-question-bounds → tie.After-workspace-needed
+sized c = c .before .before .before .before
+
 shape-of-requires : tie.Need-shape-of-requires
 shape-of-requires c κs = known (answered c) .inside
 
@@ -61,40 +70,40 @@ workspace-needed-requires c κs = (head-fits (answered (c .before)), known (answ
 -- the shape's rows are wide enough, there is one, and both halves are what is needed
 width-is :
     (c : tie.After-workspace-needed) →
-    let a = start (answered (c .before .before)) .args in
-    c .before .shape-of .result .width ≡ row-levels (a .ask .head .opening) (a .ask .head .months)
+    let a = start (answered (measured (shaped c))) .args in
+    shaped c .shape-of .result .width ≡ row-levels (a .ask .head .opening) (a .ask .head .months)
 width-is c =
-    let q = start (answered (c .before .before)) .args .ask .question in
-    let width = c .before .before .row-levels in
-    ap (λ s. s .width) (c .before .shape-of .ensures) ∙ shape-width q (width .result) ∙ width .ensures
+    let q = start (answered (measured (shaped c))) .args .ask .question in
+    let width = measured (shaped c) .row-levels in
+    ap (λ s. s .width) (shaped c .shape-of .ensures) ∙ shape-width q (width .result) ∙ width .ensures
 
-rows-some : (c : tie.After-workspace-needed) → 0 < c .before .shape-of .result .rows
+rows-some : (c : tie.After-workspace-needed) → 0 < shaped c .shape-of .result .rows
 rows-some c =
-    let else1 = answered (c .before .before) in
+    let else1 = answered (measured (shaped c)) in
     let q = start else1 .args .ask .question in
     omega (
       arith,
-      ap (λ s. s .rows) (c .before .shape-of .ensures) ∙ shape-rows q (c .before .before .row-levels .result),
+      ap (λ s. s .rows) (shaped c .shape-of .ensures) ∙ shape-rows q (measured (shaped c) .row-levels .result),
       rows-few q (known else1 .inside),
     )
 
-needed-is : (c : tie.After-workspace-needed) → workspace-needed (start (answered (c .before .before)) .args .ask) ≡ 2 * rows-size (c .before .shape-of .result)
+needed-is : (c : tie.After-workspace-needed) → workspace-needed (start (answered (measured (shaped c))) .args .ask) ≡ 2 * rows-size (shaped c .shape-of .result)
 needed-is c =
-    let a = start (answered (c .before .before)) .args in
-    let width = c .before .before .row-levels in
-    rw (c .before .shape-of .ensures) (needed-halves (a .ask) (width .result) (width .ensures))
+    let a = start (answered (measured (shaped c))) .args in
+    let width = measured (shaped c) .row-levels in
+    needed-halves (a .ask) (width .result) (width .ensures) ∙ ap (λ s. 2 * rows-size s) (sym (shaped c .shape-of .ensures))
 
 slice-relend-prefix-question-bounds : tie.Need-slice-relend-prefix-question-bounds
-slice-relend-prefix-question-bounds c = omega (arith, c .workspace-needed .ensures, known (answered (c .before .before)) .enough)
+slice-relend-prefix-question-bounds c = omega (arith, c .workspace-needed .ensures, known (answered (measured (shaped c))) .enough)
 
 slice-aggregate-question-bounds : tie.Need-slice-aggregate-question-bounds
-slice-aggregate-question-bounds c = simp length-take (omega (arith, c .before .workspace-needed .ensures, known (answered (c .before .before .before)) .enough))
+slice-aggregate-question-bounds c = simp length-take (omega (arith, c .before .workspace-needed .ensures, known (answered (measured (shaped (c .before)))) .enough))
 
 slice-aggregate-question-bounds-2 : tie.Need-slice-aggregate-question-bounds-2
-slice-aggregate-question-bounds-2 c = simp length-take (omega (arith, fits (answered (c .before .before .before .before)) .row-is))
+slice-aggregate-question-bounds-2 c = simp length-take (omega (arith, fits (answered (measured (shaped (c .before .before)))) .row-is))
 
 mul-question-bounds : tie.Need-mul-question-bounds
-mul-question-bounds c = omega (arith, fits (answered (c .before .before .before .before)) .head .months-fit)
+mul-question-bounds c = omega (arith, fits (answered (measured (shaped (c .before .before)))) .head .months-fit)
 
 sub-question-bounds : tie.Need-sub-question-bounds
 sub-question-bounds c = search needs
@@ -103,21 +112,23 @@ part-question-bounds-start : tie.Need-part-question-bounds-start
 part-question-bounds-start c = search needs
 
 part-question-bounds-end : tie.Need-part-question-bounds-end
-part-question-bounds-end c = omega (arith, fits (answered (c .before .before .before .before)) .row-is)
+part-question-bounds-end c = omega (arith, fits (answered (measured (shaped (c .before .before)))) .row-is)
 
 question-bounds-requires : tie.Need-question-bounds-requires
 question-bounds-requires c κs =
     let n = c .before .before .before in
-    let f = fits (answered (n .before .before)) in
-    let a = start (answered (n .before .before)) .args in (
+    let f = fits (answered (measured (shaped n))) in
+    let a = start (answered (measured (shaped n))) .args in (
       (
         rows-some n,
-        rw (months-count (a .ask .head) (a .row .now) (f .row-is)) (omega (arith, width-is n)),
-        length-take-le (n .workspace-needed .result) (a .workspace .now) (omega (arith, n .workspace-needed .ensures, known (answered (n .before .before)) .enough))
+        length-take-le (n .workspace-needed .result) (a .workspace .now) (omega (arith, n .workspace-needed .ensures, known (answered (measured (shaped n))) .enough))
             ∙ n .workspace-needed .ensures
             ∙ needed-is n,
       ),
-      (chances-parts (a .ask .head) (a .row .now) f, severity-fits (a .ask .head) (a .row .now) f),
+      (
+        rw (months-count (a .ask .head) (a .row .now) (f .row-is)) (omega (arith, width-is n)),
+        (severity-fits (a .ask .head) (a .row .now) f, chances-parts (a .ask .head) (a .row .now) f),
+      ),
     )
 
 same-length : tie.Need-same-length
@@ -126,21 +137,21 @@ same-length c = search needs
 returns-2 : tie.Need-returns-2
 returns-2 c =
     let call = c .before .before .question-bounds in
-    let n = c .before .before .before .before .before .before in
-    let else1 = answered (n .before .before) in
+    let n = sized (c .before .before) in
+    let else1 = answered (measured (shaped n)) in
     let a = start else1 .args in
     let h = a .ask .head in
     let row = a .row .now in
     let q = a .ask .question in
     let f = fits else1 in
     let none = sym (else1 .before .ask-refusal .ensures) ∙ else1 .if1 .left in
-    let width = n .before .before .row-levels in
-    let low = bound-is h row (f .row-is) q (known else1 .inside) down (width .result) (call .result .lower) (width .ensures) (rw (n .before .shape-of .ensures) at (call .ensures .0)) in
-    let high = bound-is h row (f .row-is) q (known else1 .inside) up (width .result) (call .result .upper) (width .ensures) (rw (n .before .shape-of .ensures) at (call .ensures .1 .0)) in (
+    let width = measured (shaped n) .row-levels in
+    let low = bound-is h row (f .row-is) q (known else1 .inside) down (width .result) (call .result .lower) (width .ensures) (rw (shaped n .shape-of .ensures) at (call .ensures .0)) in
+    let high = bound-is h row (f .row-is) q (known else1 .inside) up (width .result) (call .result .upper) (width .ensures) (rw (shaped n .shape-of .ensures) at (call .ensures .1 .0)) in (
       answer-given (a .ask) row (length (a .workspace .now)) (call .result .lower) (call .result .upper) none low high,
       (
         rw (n .workspace-needed .ensures) (workspace-cleared (a .ask) row (a .workspace .now) (call .last .0) none (known else1 .enough) (rw (n .workspace-needed .ensures) at (call .ensures .1 .1))),
-        λ _. rw (low, high) (enclosure h row (known else1 .accepted) q),
+        λ _. encloses-as low high (enclosure h row (known else1 .accepted) q),
       ),
     )
 

@@ -1,14 +1,21 @@
--- `count_month` meets its contract. The invariant: the places above k are new and the others old (`counting`).
-use mathlib.Core.Path.{_≡_, refl, sym, _∙_}
-use Prim.Native.Nat.{_+_, _-_, _<_}
+-- `count_month` meets its contract. The invariant: the places above k are new and the others old (`new-from`).
+use mathlib.Core.Path.{_≡_, refl, sym, ap, _∙_}
+use mathlib.Core.List.{List}
+use Prim.Native.Nat.{ℕ, _+_, _-_, _<_, _≤_}
 use native.Mathlib.Omega.{arith}
-use lib.ListN.{length, length-set}
-use Rattle.engine.proofs.CountLaws.{counting, counting-start, counting-turn, counting-end, counting-below, place-value, first-value}
+use lib.ListN.{length, getD, length-set}
+use Rattle.model.specs.Scale.{S}
+use Rattle.engine.proofs.CountLaws.{new-from, new-from-start, new-from-turn, new-from-end, new-from-below, place-value, first-value}
 use Rattle.engine.proofs.counts.count_month.Statement.{statement}
 use Rattle.engine.proofs.counts.count_month.Tie as tie
 
+record Inv (old : List ℕ) (bias P : ℕ) (row : List ℕ) (k : ℕ) : Type 0 where
+  within : k < length old
+  same-length : length row ≡ length old
+  so-far : row ≡ new-from old bias P (k + 1)
+
 abbrev Inv-loop : tie.InvT-loop
-Inv-loop row₀ chance bias k₀ row k = (k < length row₀) × (length row ≡ length row₀) × (row ≡ counting row₀ bias chance (k + 1))
+Inv-loop row₀ chance bias k₀ row k = Inv row₀ bias chance row k
 
 abbrev μ-loop : tie.MeasureT-loop
 μ-loop row₀ chance bias k₀ row k = k
@@ -20,40 +27,50 @@ loop-holds : tie.Need-loop-holds Inv-loop μ-loop
 loop-holds c =
     let a = c .before .args in
     let all : length (a .row .now) - 1 + 1 ≡ length (a .row .now) = omega arith in
-    (omega arith, refl, rw all (sym (counting-start (a .row .now) (a .bias) (a .chance))))
+    record { within = omega arith; same-length = refl; so-far = rw all (sym (new-from-start (a .row .now) (a .bias) (a .chance))) }
+
+-- the places at the calls and the loop, each from the next
+abbrev start : tie.At-loop Inv-loop μ-loop → tie.Start Inv-loop μ-loop
+start c = c .before .before
+
+abbrev turn : tie.After-mixture Inv-loop μ-loop → tie.In-loop Inv-loop μ-loop
+turn c = c .before .before .before
+
+abbrev ended : tie.After-mixture2 Inv-loop μ-loop → tie.After-loop Inv-loop μ-loop
+ended c = c .before .before
+
+-- a place that no turn has reached holds what it held
+old-part : (c : tie.At-loop Inv-loop μ-loop) (i : ℕ) → i ≤ c .loop .k → getD (c .loop .row) i 0 ≤ S
+old-part c i l =
+    let a = start c .args in
+    rw (new-from-below (a .row .now) (a .bias) (a .chance) (c .loop .row) (c .loop .k) i (c .loop .inv .within) (c .loop .inv .so-far) l) (start c .pre .1 .each i)
 
 mul-mixture : tie.Need-mul-mixture Inv-loop μ-loop
-mul-mixture c = omega arith
+mul-mixture c = omega (arith, c .before .loop .inv .within)
 
 slice-read-mixture : tie.Need-slice-read-mixture Inv-loop μ-loop
-slice-read-mixture c = omega arith
+slice-read-mixture c = let inv = c .before .before .loop .inv in omega (arith, inv .within, inv .same-length)
 
 sub-mixture : tie.Need-sub-mixture Inv-loop μ-loop
 sub-mixture c = omega arith
 
 mul-mixture-2 : tie.Need-mul-mixture-2 Inv-loop μ-loop
-mul-mixture-2 c = omega arith
+mul-mixture-2 c = omega (arith, c .before .before .loop .inv .within)
 
 slice-read-mixture-2 : tie.Need-slice-read-mixture-2 Inv-loop μ-loop
-slice-read-mixture-2 c = omega arith
+slice-read-mixture-2 c = let inv = c .before .before .before .loop .inv in omega (arith, inv .within, inv .same-length)
 
 mixture-requires : tie.Need-mixture-requires Inv-loop μ-loop
 mixture-requires c κs =
-    let loop = c .before .before .before .loop in
-    let start = c .before .before .before .before .before in
-    let a = start .args in (
-      start .pre .2,
-      rw (counting-below (a .row .now) (a .bias) (a .chance) (loop .row) (loop .k) (loop .k) (loop .inv .0) (loop .inv .2) (omega arith)) (start .pre .1 .each (loop .k)),
-      rw (counting-below (a .row .now) (a .bias) (a .chance) (loop .row) (loop .k) (loop .k - 1) (loop .inv .0) (loop .inv .2) (omega arith))
-          (start .pre .1 .each (loop .k - 1)),
-      start .pre .3,
-    )
+    let at-loop = c .before .before .before in
+    let from = start at-loop in
+    (from .pre .2, old-part at-loop (at-loop .loop .k) (omega arith), old-part at-loop (at-loop .loop .k - 1) (omega arith), from .pre .3)
 
 mul-row : tie.Need-mul-row Inv-loop μ-loop
-mul-row c = omega arith
+mul-row c = omega (arith, turn c .before .loop .inv .within)
 
 slice-write-row : tie.Need-slice-write-row Inv-loop μ-loop
-slice-write-row c = omega arith
+slice-write-row c = let inv = turn c .before .loop .inv in omega (arith, inv .within, inv .same-length)
 
 sub-k-2 : tie.Need-sub-k-2 Inv-loop μ-loop
 sub-k-2 c = omega arith
@@ -63,49 +80,44 @@ loop-less c = omega arith
 
 loop-again : tie.Need-loop-again Inv-loop μ-loop
 loop-again c =
-    let loop = c .before .before .before .before .loop in
-    let start = c .before .before .before .before .before .before in
-    let a = start .args in
+    let loop = turn c .before .loop in
+    let a = start (turn c .before) .args in
     let old = a .row .now in
-    let back : loop .k - 1 + 1 ≡ loop .k = omega arith in (
-      omega arith,
-      simp length-set (loop .inv .1),
-      rw back
-          (counting-turn old (a .bias) (a .chance) (loop .row) (loop .k) (c .mixture .result) (loop .inv .0) (loop .inv .2)
-          (place-value old (a .bias) (a .chance) (loop .row) (loop .k) (c .mixture .result) (omega arith) (loop .inv .0) (loop .inv .2) (c .mixture .ensures))),
-    )
+    let back : loop .k - 1 + 1 ≡ loop .k = omega arith in
+    record {
+      within = omega (arith, loop .inv .within);
+      same-length = simp length-set (loop .inv .same-length);
+      so-far =
+          rw back
+          (new-from-turn old (a .bias) (a .chance) (loop .row) (loop .k) (c .mixture .result) (loop .inv .within) (loop .inv .so-far)
+          (place-value old (a .bias) (a .chance) (loop .row) (loop .k) (c .mixture .result) (omega arith) (loop .inv .within) (loop .inv .so-far) (c .mixture .ensures)));
+    }
 
 slice-read-mixture-3 : tie.Need-slice-read-mixture-3 Inv-loop μ-loop
-slice-read-mixture-3 c = omega arith
+slice-read-mixture-3 c = let inv = c .before .before .loop .inv in omega (arith, inv .within, inv .same-length)
 
 mixture-requires-2 : tie.Need-mixture-requires-2 Inv-loop μ-loop
 mixture-requires-2 c κs =
-    let loop = c .before .before .loop in
-    let start = c .before .before .before .before in
-    let a = start .args in (
-      start .pre .2,
-      rw (counting-below (a .row .now) (a .bias) (a .chance) (loop .row) (loop .k) 0 (loop .inv .0) (loop .inv .2) (omega arith)) (start .pre .1 .each 0),
-      omega arith,
-      start .pre .3,
-    )
+    let at-loop = c .before .before in
+    let from = start at-loop in
+    (from .pre .2, old-part at-loop 0 (omega arith), omega arith, from .pre .3)
 
 slice-write-row-2 : tie.Need-slice-write-row-2 Inv-loop μ-loop
-slice-write-row-2 c = omega arith
+slice-write-row-2 c = let inv = ended c .before .loop .inv in omega (arith, inv .within, inv .same-length)
 
 same-length : tie.Need-same-length Inv-loop μ-loop
-same-length c = simp length-set (c .before .before .before .loop .inv .1)
+same-length c = simp length-set (ended c .before .loop .inv .same-length)
 
 returns : tie.Need-returns Inv-loop μ-loop
 returns c =
-    let loop = c .before .before .before .loop in
-    let start = c .before .before .before .before .before in
-    let a = start .args in
+    let loop = ended c .before .loop in
+    let a = start (ended c .before) .args in
     let old = a .row .now in
-    let first : loop .k ≡ 0 = omega arith in
-    let row = rw first at (loop .inv .2) in
-    counting-turn old (a .bias) (a .chance) (loop .row) 0 (c .mixture2 .result) (omega arith) row
-    (first-value old (a .bias) (a .chance) (loop .row) (c .mixture2 .result) (omega arith) row (c .mixture2 .ensures))
-    ∙ counting-end old (a .bias) (a .chance)
+    let first : loop .k ≡ 0 = omega (arith, ended c .loop-test .left) in
+    let row : loop .row ≡ new-from old (a .bias) (a .chance) 1 = loop .inv .so-far ∙ ap (λ k. new-from old (a .bias) (a .chance) (k + 1)) first in
+    new-from-turn old (a .bias) (a .chance) (loop .row) 0 (c .mixture2 .result) (omega (arith, loop .inv .within)) row
+    (first-value old (a .bias) (a .chance) (loop .row) (c .mixture2 .result) (omega (arith, loop .inv .within)) row (c .mixture2 .ensures))
+    ∙ new-from-end old (a .bias) (a .chance)
 
 pub count-month-spec : {M : Type 1} → statement M
 count-month-spec =

@@ -18,6 +18,13 @@ first-rows-requires c κs = tt
 loop-holds : tie.Need-loop-holds Inv-loop μ-loop
 loop-holds c = (omega arith, rw (c .first-rows .ensures) (counting-rows-start (c .before .before .args .chances .now)))
 
+-- the places at the calls and the loop, each from the next
+abbrev start : tie.At-loop Inv-loop μ-loop → tie.Start Inv-loop μ-loop
+start c = c .before .before .before
+
+abbrev turn : tie.After-month Inv-loop μ-loop → tie.In-loop Inv-loop μ-loop
+turn c = c .before .before
+
 mul-month : tie.Need-mul-month Inv-loop μ-loop
 mul-month c = omega arith
 
@@ -26,8 +33,8 @@ shared-slice-read-month c = omega arith
 
 month-requires : tie.Need-month-requires Inv-loop μ-loop
 month-requires c κs =
-    let loop = c .before .before .loop in
-    (loop .inv .1 .parts, c .before .before .before .before .before .pre .each (loop .t))
+    let at-loop = c .before .before in
+    (at-loop .loop .inv .1 .parts, start at-loop .pre .each (at-loop .loop .t))
 
 add-t : tie.Need-add-t Inv-loop μ-loop
 add-t c = omega arith
@@ -37,14 +44,16 @@ loop-less c = omega arith
 
 loop-again : tie.Need-loop-again Inv-loop μ-loop
 loop-again c =
-    let loop = c .before .before .before .loop in
-    let start = c .before .before .before .before .before .before in (
+    let loop = turn c .before .loop in
+    let from = start (turn c .before) in (
       omega arith,
-      rw (c .month .ensures) (counting-rows-turn (start .args .chances .now) (start .pre) (loop .row) (loop .t) (omega arith) (loop .inv .1)),
+      rw (c .month .ensures) (counting-rows-turn (from .args .chances .now) (from .pre) (loop .row) (loop .t) (omega arith) (loop .inv .1)),
     )
 
 returns : tie.Need-returns Inv-loop μ-loop
-returns c = counting-rows-end (c .before .before .before .before .args .chances .now) (c .before .loop .row) (c .before .loop .t) (omega arith) (c .before .loop .inv .1)
+returns c =
+    let loop = c .before .loop in
+    counting-rows-end (start (c .before) .args .chances .now) (loop .row) (loop .t) (omega arith) (loop .inv .1)
 
 pub count-rows-spec : {M : Type 1} → statement M
 count-rows-spec =

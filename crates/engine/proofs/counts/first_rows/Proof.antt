@@ -1,7 +1,7 @@
 -- `first_rows` meets its contract, by computation.
 use mathlib.Core.Path.{refl}
 use Rattle.model.specs.Scale.{S}
-use Rattle.model.specs.CountRow.{no-months, counted, count-row, tabulate}
+use Rattle.model.specs.CountRow.{no-months, after-months, count-row, tabulate}
 use Rattle.engine.specs.Answers.{count-rows}
 use borrow.Author.Needs.{needs}
 use Rattle.engine.proofs.counts.first_rows.Statement.{statement}
@@ -11,7 +11,7 @@ array-write-row : tie.Need-array-write-row
 array-write-row c = search needs
 
 returns : tie.Need-returns
-unfolding count-rows count-row counted no-months tabulate S
+unfolding count-rows count-row after-months no-months tabulate S
 returns c = refl
 
 pub first-rows-spec : {M : Type 1} → statement M

@@ -40,23 +40,25 @@ last-rows-requires-2 c κs = search needs
 same-length : tie.Need-same-length
 same-length c = search needs
 
-abbrev lent : tie.After-slice-known3 → tie.After-last-rows
-lent c = c .before .before .before .before .before .before
-
+-- the places at the calls, each from the next
 abbrev start : tie.After-last-rows → tie.Start
 start c = c .before .before .before .before
 
+abbrev lower : tie.After-last-rows2 → tie.After-last-rows
+lower c = c .before .before .before .before
+
 returns : tie.Need-returns
 returns c =
-    let upper = c .before .before .last-rows2 in
-    let lower = lent c .last-rows in
-    let from = start (lent c) in
-    let a = from .args in
-    let half = rows-size (a .shape) in (
-      (λ top l k m s. rw (first-half (a .halves .now) (lower .last .0) (upper .last .0) half (from .pre .1) (lower .kept .0)) (lower .ensures .0 top l k m s)),
+    let at-upper = c .before .before in
+    let last = at-upper .last-rows2 in
+    let first = lower at-upper .last-rows in
+    let from = start (lower at-upper) in
+    let xs = from .args .halves .now in
+    let half = rows-size (from .args .shape) in (
+      (λ top l k m s. rw (first-half xs (first .last .0) (last .last .0) half (from .pre .1) (first .kept .0)) (first .ensures .0 top l k m s)),
       (
-        (λ top l k m s. rw (second-half (a .halves .now) (lower .last .0) (upper .last .0) half (from .pre .1) (lower .kept .0)) (upper .ensures .0 top l k m s)),
-        parts-both (a .halves .now) (lower .last .0) (upper .last .0) half (from .pre .1) (lower .kept .0) (lower .ensures .1) (upper .ensures .1),
+        (λ top l k m s. rw (second-half xs (first .last .0) (last .last .0) half (from .pre .1) (first .kept .0)) (last .ensures .0 top l k m s)),
+        parts-both xs (first .last .0) (last .last .0) half (from .pre .1) (first .kept .0) (first .ensures .1) (last .ensures .1),
       ),
     )
 

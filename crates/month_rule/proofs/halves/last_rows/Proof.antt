@@ -16,8 +16,12 @@ sub-start c = search needs
 fits : (c : tie.Start) → (c .args .shape .rows - 1) * c .args .shape .width + c .args .shape .width ≤ length (c .args .rows .now)
 fits c = omega (arith, c .pre .1, row-fits (c .args .shape .rows - 1) (c .args .shape .rows) (c .args .shape .width) (omega (arith, c .pre .0)))
 
+-- the places at the calls, each from the next
 abbrev start : tie.After-fill → tie.Start
 start c = c .before .before .before .before .before
+
+abbrev zeros : tie.After-fill2 → tie.After-fill
+zeros c = c .before .before .before .before
 
 mul-start : tie.Need-mul-start
 mul-start c = omega (arith, fits (c .before .before .before))
@@ -43,18 +47,16 @@ fill-requires-2 c κs = search needs
 same-length : tie.Need-same-length
 same-length c = search needs
 
-abbrev filled : tie.After-slice-known3 → tie.After-fill
-filled c = c .before .before .before .before .before .before
-
 returns : tie.Need-returns
 unfolding S
 returns c =
-    let own = c .before .before .fill2 in
-    let zeros = filled c .fill in
-    let from = start (filled c) in
+    let at-own = c .before .before in
+    let own = at-own .fill2 in
+    let zero = zeros at-own .fill in
+    let from = start (zeros at-own) in
     let a = from .args in (
-      last-rows-at (a .rows .now) (zeros .last .0) (own .last .0) (a .shape) (from .pre .0) (from .pre .1) (zeros .ensures) (own .ensures),
-      last-rows-parts (a .rows .now) (zeros .last .0) (own .last .0) (a .shape) (from .pre .0) (from .pre .1) (zeros .ensures) (own .ensures),
+      last-rows-at (a .rows .now) (zero .last .0) (own .last .0) (a .shape) (from .pre .0) (from .pre .1) (zero .ensures) (own .ensures),
+      last-rows-parts (a .rows .now) (zero .last .0) (own .last .0) (a .shape) (from .pre .0) (from .pre .1) (zero .ensures) (own .ensures),
     )
 
 pub last-rows-spec : {M : Type 1} → statement M

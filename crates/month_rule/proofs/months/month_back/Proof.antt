@@ -3,34 +3,48 @@ use mathlib.Core.Path.{_∙_}
 use borrow.Author.Needs.{needs}
 use Rattle.month_rule.specs.Rows.{round-by}
 use Rattle.month_rule.specs.Shapes.{values-in, rule-by}
-use Rattle.month_rule.proofs.MonthsLaws.{month-forbidden}
+use Rattle.month_rule.proofs.ManyRows.{rows-in-again, forbidden-levels}
+use Rattle.month_rule.proofs.AllMonths.{month-forbidden}
 use Rattle.month_rule.proofs.months.month_back.Statement.{statement}
 use Rattle.month_rule.proofs.months.month_back.Tie as tie
 
-forbid-rows-requires : tie.Need-forbid-rows-requires
-forbid-rows-requires c κs = search needs
+-- the places after the calls, each from the next
+abbrev forbidden : tie.After-all-rows-back → tie.After-forbid-rows
+forbidden c = c .before .before .before .before
 
-rows-back-requires : tie.Need-rows-back-requires
-rows-back-requires c κs = search needs
+abbrev start : tie.After-forbid-rows → tie.Start
+start c = c .before .before .before .before
+
+forbid-rows-requires : tie.Need-forbid-rows-requires
+forbid-rows-requires c κs = let from = c .before .before .before in (from .pre .0, from .pre .1 .0 .1)
+
+all-rows-back-requires : tie.Need-all-rows-back-requires
+all-rows-back-requires c κs =
+    let clear = c .before .before .before in
+    let from = start clear in
+    (rows-in-again (from .args .shape) (from .args .rows .now) (clear .forbid-rows .last .0) (from .pre .0) (clear .forbid-rows .kept .0) (clear .forbid-rows .ensures .1), from .pre .1)
 
 same-length : tie.Need-same-length
 same-length c = search needs
 
-abbrev forbidden-at : tie.After-slice-known3 → tie.After-forbid-rows
-forbidden-at c = c .before .before .before .before .before .before
-
 returns : tie.Need-returns
 unfolding rule-by
 returns c =
-    let back = c .before .before .rows-back in
-    let forbidden = forbidden-at c .forbid-rows in
-    let a = forbidden-at c .before .before .before .before .args in (
+    let at-end = c .before .before in
+    let back = at-end .all-rows-back in
+    let clear = forbidden at-end .forbid-rows in
+    let from = start (forbidden at-end) in
+    let a = from .args in
+    let levels = forbidden-levels (a .shape) (a .top) (from .pre .1 .0 .1) (a .rows .now) (clear .last .0) (clear .ensures .0) in (
       λ k l s m.
           back .ensures .0 k l s m
           ∙ month-forbidden (round-by (a .bias)) (a .severity .now) (a .shape) (a .top) (a .chance) (values-in (a .shape) (a .top) (a .rows .now))
-          (values-in (a .shape) (a .top) (forbidden .last .0)) (forbidden .ensures .0) k l s m,
-      back .ensures .1,
+          (values-in (a .shape) (a .top) (clear .last .0)) levels k l s m,
+      (
+        λ k l i m b. back .ensures .1 .0 k l i m b ∙ clear .ensures .0 k l i b,
+        back .ensures .1 .1,
+      ),
     )
 
 pub month-back-spec : {M : Type 1} → statement M
-month-back-spec = tie.close (tie.spec forbid-rows-requires rows-back-requires same-length returns)
+month-back-spec = tie.close (tie.spec forbid-rows-requires all-rows-back-requires same-length returns)

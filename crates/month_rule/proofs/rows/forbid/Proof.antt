@@ -39,14 +39,28 @@ fill-requires-2 c κs = search needs
 same-length : tie.Need-same-length
 same-length c = search needs
 
+-- the places at the calls, each from the next
+abbrev start : tie.After-lesser → tie.Start
+start c = c .before .before
+
+abbrev first : tie.After-fill → tie.After-lesser
+first c = c .before .before
+
+abbrev front : tie.After-lesser2 → tie.After-fill
+front c = c .before .before .before
+
+abbrev last : tie.After-fill2 → tie.After-lesser2
+last c = c .before .before
+
 returns : tie.Need-returns
 returns c =
-    let a = c .before .before .before .before .before .before .before .before .before .before .before .args in
-    let first = c .before .before .before .before .before .before .before .before .before .lesser in
-    let last = c .before .before .before .before .lesser2 in
-    let front = c .before .before .before .before .before .before .before .fill in
-    forbidden (a .row .now) (front .last .0) (c .before .before .fill2 .last .0) (a .first) (a .last) (first .result) (last .result)
-    (first .ensures) (front .ensures) (last .ensures) (c .before .before .fill2 .ensures)
+    let at-back = c .before .before in
+    let at-last = last at-back in
+    let at-front = front at-last in
+    let at-first = first at-front in
+    let a = start at-first .args in
+    forbidden (a .row .now) (at-front .fill .last .0) (at-back .fill2 .last .0) (a .first) (a .last) (at-first .lesser .result) (at-last .lesser2 .result)
+    (at-first .lesser .ensures) (at-front .fill .ensures) (at-last .lesser2 .ensures) (at-back .fill2 .ensures)
 
 pub forbid-spec : {M : Type 1} → statement M
 forbid-spec =

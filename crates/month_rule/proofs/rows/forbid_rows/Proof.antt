@@ -27,7 +27,7 @@ difference-requires-2 c κs = tt
 loop-holds : tie.Need-loop-holds Inv-loop μ-loop
 loop-holds c =
     let from = c .before .before .before in
-    (omega arith, forbidding-start (from .args .rows .now) (from .args .shape .width) _ _ (from .pre .1))
+    (omega arith, forbidding-start (from .args .rows .now) (from .args .shape .width) _ _ (from .pre .0 .parts))
 
 abbrev start : tie.At-loop Inv-loop μ-loop → tie.Start Inv-loop μ-loop
 start c = c .before .before .before .before
@@ -39,7 +39,7 @@ fits :
     c .before .loop .j * a .shape .width + a .shape .width ≤ length (a .rows .now)
 fits c =
     let from = start (c .before) in
-    omega (arith, from .pre .0 .0, row-fits (c .before .loop .j) (from .args .shape .rows) (from .args .shape .width) (c .loop-test .taken))
+    omega (arith, from .pre .0 .size, row-fits (c .before .loop .j) (from .args .shape .rows) (from .args .shape .width) (c .loop-test .taken))
 
 mul-start : tie.Need-mul-start Inv-loop μ-loop
 mul-start c = omega (arith, fits c)
@@ -76,7 +76,7 @@ loop-again c =
     let from = start (turn .before) in
     let width = from .args .shape .width in (
       omega arith,
-      forbidding-turn (from .args .rows .now) (from .args .shape .rows) width _ _ (from .pre .0 .0) (loop .rows) (forbid .last .0) (loop .j)
+      forbidding-turn (from .args .rows .now) (from .args .shape .rows) width _ _ (from .pre .0 .size) (loop .rows) (forbid .last .0) (loop .j)
           (loop .j * width + width - loop .j * width) (omega arith) (turn .loop-test .taken) (loop .inv .1) (forbid .kept .0) (forbid .ensures),
     )
 
@@ -87,7 +87,7 @@ returns : tie.Need-returns Inv-loop μ-loop
 returns c =
     let inv = c .before .loop .inv in
     let from = start (c .before) in (
-      forbidden-in (from .args .shape) (from .args .top) (from .pre .0 .1) (from .args .rows .now) _ _ _ _ (c .loop-test .left)
+      forbidden-in (from .args .shape) (from .args .top) (from .args .rows .now) _ _ _ _ (c .loop-test .left)
           (c .before .before .before .difference .ensures) (c .before .before .difference2 .ensures) (inv .1),
       inv .1 .parts,
     )

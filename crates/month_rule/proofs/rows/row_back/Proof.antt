@@ -8,7 +8,7 @@ use Rattle.model.specs.Scale.{S}
 use Rattle.model.specs.MonthRule.{claim-sum}
 use Rattle.model.proofs.LevelLaws.{gain-some}
 use Rattle.month_rule.specs.Rows.{from-top}
-use Rattle.month_rule.proofs.MonthLaws.{claim-sum-fits, value-le}
+use Rattle.month_rule.proofs.ValueLaws.{claim-sum-fits, value-le}
 use Rattle.month_rule.proofs.RowLaws.{parts-part, row-before, Rewriting, rewriting-start, rewriting-turn, sum-beyond, value-before}
 use Rattle.month_rule.proofs.rows.row_back.Statement.{statement}
 use Rattle.month_rule.proofs.rows.row_back.Tie as tie
@@ -66,7 +66,7 @@ claim-sum-requires c κs =
     let loop = at-loop (c .before .before) .loop in
     let from = start (at-loop (c .before .before)) in
     let next = from .args .claimed + loop .i + 1 in
-    (parts-part (loop .rows) next (from .args .claimed + from .args .top - next) (loop .inv .1 .parts), from .pre .1 .1 .0)
+    (parts-part (loop .rows) next (from .args .claimed + from .args .top - next) (loop .inv .1 .parts), from .pre .1 .1 .weights-fit)
 
 abbrev turn : tie.After-claim-sum Inv-loop μ-loop → tie.In-loop Inv-loop μ-loop
 turn c = c .before .before .before
@@ -88,7 +88,7 @@ sum-fits : (c : tie.After-claim-sum Inv-loop μ-loop) → c .claim-sum .result �
 sum-fits c =
     let from = start (at-loop (turn c)) in
     rw (sum-is c)
-    (claim-sum-fits (from .args .severity .now) _ (from .pre .1 .1 .0) (λ s. rw getD-drop (from .pre .1 .0 .each _)) _)
+    (claim-sum-fits (from .args .severity .now) _ (from .pre .1 .1 .weights-fit) (λ s. rw getD-drop (from .pre .1 .0 .each _)) _)
 
 add-place : tie.Need-add-place Inv-loop μ-loop
 add-place c = omega (arith, inside (turn c))
@@ -103,7 +103,7 @@ month-value-requires : tie.Need-month-value-requires Inv-loop μ-loop
 month-value-requires c κs =
     let from = start (at-loop (turn (c .before))) in
     let loop = at-loop (turn (c .before)) .loop in
-    (from .pre .1 .1 .1 .0, loop .inv .1 .parts .each _, sum-fits (c .before), from .pre .1 .1 .1 .1)
+    (from .pre .1 .1 .chance-fits, loop .inv .1 .parts .each _, sum-fits (c .before), from .pre .1 .1 .bias-fits)
 
 mul-rows : tie.Need-mul-rows Inv-loop μ-loop
 mul-rows c = omega (arith, inside (turn (c .before .before)))
@@ -127,10 +127,10 @@ loop-again c =
       rewriting-turn (a .rows .now) (a .quiet) _ (loop .rows) (loop .i) (c .month-value .result) (loop .inv .1) (omega (arith, inside (turn read)))
           (c .month-value .ensures
           ∙ value-before (a .rows .now) (a .severity .now) (a .quiet) (a .claimed) (a .top) (a .live) (a .chance) (a .bias) (from .pre .0 .0) (from .pre .0 .1)
-          (loop .i) _ (read .claim-sum .result) (omega arith) (loop .inv .1 .after _ (omega arith)) (sum-is read))
+          (loop .i) _ (read .claim-sum .result) (omega arith) (loop .inv .1 .so-far .later _ (omega arith)) (sum-is read))
           (rw (c .month-value .ensures)
-          (value-le (a .chance) _ (read .claim-sum .result) (a .bias) (from .pre .1 .1 .1 .0) (loop .inv .1 .parts .each _) (sum-fits read)
-          (from .pre .1 .1 .1 .1))),
+          (value-le (a .chance) _ (read .claim-sum .result) (a .bias) (from .pre .1 .1 .chance-fits) (loop .inv .1 .parts .each _) (sum-fits read)
+          (from .pre .1 .1 .bias-fits))),
     )
 
 same-length : tie.Need-same-length Inv-loop μ-loop
@@ -138,8 +138,9 @@ same-length c = c .before .loop .inv .1 .same-length
 
 returns : tie.Need-returns Inv-loop μ-loop
 returns c =
-    let inv = c .before .loop .inv .1 in
-    (λ i l. inv .done i (omega arith), (inv .before, ((λ k l. inv .after k (omega arith)), inv .parts)))
+    let inv = c .before .loop .inv in
+    let all : c .before .loop .i ≡ start (c .before) .args .live = omega (arith, inv .0, c .loop-test .left) in
+    (rw all at (inv .1 .so-far), inv .1 .parts)
 
 pub row-back-spec : {M : Type 1} → statement M
 row-back-spec =

@@ -1,10 +1,13 @@
 -- Laws of all months: rules that agree on the rows and levels in memory have equal values there, and one month on top of the months after it.
 use mathlib.Core.Path.{_≡_, refl, sym, _∙_, ap, ap₂}
-use mathlib.Core.Bool.{Bool, true, false, cond}
+use mathlib.Core.Logic.{⊎-elim}
+use mathlib.Core.Bool.{Bool, true, false, _&&_, cond}
 use mathlib.Core.List.{List, [], _∷_}
 use Prim.Native.Nat.{ℕ, zero, suc, _+_, _-_, _≤_, _<_}
 use native.Mathlib.Nat.{zero-mul}
 use native.Mathlib.Omega.{arith}
+use borrow.Author.Tests.{le-ltb}
+use lib.Dec.{leb}
 use lib.ListN.{length, getD, take, drop}
 use lib.Seq.{take-all}
 use Rattle.model.specs.Scale.{Rounding}
@@ -12,9 +15,10 @@ use Rattle.model.specs.Levels.{gain, largest-level}
 use Rattle.model.specs.MonthRule.{Row, Rule, month, kept, claimed-row, month-back, values}
 use Rattle.model.proofs.LevelLaws.{level-start, level-next, level-from}
 use Rattle.month_rule.specs.declared.rows.Shape.{Shape}
-use Rattle.month_rule.specs.Rows.{after-claim-by}
-use Rattle.month_rule.specs.Shapes.{values-in, rule-by, TakenBack}
-use Rattle.month_rule.proofs.BackLaws.{month-agree}
+use Rattle.month_rule.specs.Rows.{after-claim-by, at, between}
+use Rattle.month_rule.specs.Shapes.{row-with, values-in, rule-by, allowed-places, beyond-opening, TakenBack}
+use Rattle.month_rule.proofs.ValueLaws.{below-or-not}
+use Rattle.month_rule.proofs.OneMonth.{month-agree}
 
 -- two rules that agree on the first rows, up to a level
 pub record Agree (q q′ : Rule) (count top : ℕ) : Type 0 where
@@ -55,14 +59,14 @@ values-agree round F q q′ count top a last last′ h (P ∷ Ps) j s l m =
 -- a shape's rule agrees with itself: a claim leads to one of its rows
 shape-agrees : (shape : Shape) (top : ℕ) → Agree (rule-by shape) (rule-by shape) (shape .rows) top
 unfolding rule-by claimed-row after-claim-by
-shape-agrees shape top = record { claimed = claimed-agree (shape .counted) (shape .rows); allowed = λ s l. refl }
+shape-agrees shape top = record { claimed = claimed-agree (shape .tallied) (shape .rows); allowed = λ s l. refl }
   where
     claimed-agree :
-        (counted : Bool) (count j : ℕ) → j < count → (X X′ : ℕ → Row) (k : ℕ) → ((i : ℕ) → i < count → X i k ≡ X′ i k) →
-        claimed-row X (after-claim-by counted j) k ≡ claimed-row X′ (after-claim-by counted j) k
+        (tallied : Bool) (count j : ℕ) → j < count → (X X′ : ℕ → Row) (k : ℕ) → ((i : ℕ) → i < count → X i k ≡ X′ i k) →
+        claimed-row X (after-claim-by tallied j) k ≡ claimed-row X′ (after-claim-by tallied j) k
     claimed-agree true count zero l X X′ k h = refl
     claimed-agree false count zero l X X′ k h = h 0 l
-    claimed-agree counted count (suc j) l X X′ k h = h j (omega arith)
+    claimed-agree tallied count (suc j) l X X′ k h = h j (omega arith)
 
 -- the rows after a month: those that lie forbidden in memory, taken back
 pub month-forbidden :
@@ -79,17 +83,43 @@ month-forbidden round F shape top P N X h k l s m =
 
 -- no months, and one month on top of the months after it
 pub taken-back-none : (round : Rounding) (F : List ℕ) (shape : Shape) (opening : ℕ) (rows : List ℕ) → TakenBack round F shape opening [] rows rows
-unfolding values
-taken-back-none round F shape opening rows = record { each = λ k l s m. rw (level-start opening) }
+unfolding values beyond-opening
+taken-back-none round F shape opening rows = record { each = λ k l s m. rw (level-start opening); beyond = λ k l i a b. refl }
+
+neither : (t : Bool) (v w : ℕ) → cond (t && false) v 0 ≡ cond (t && false) w 0
+neither true v w = refl
+neither false v w = refl
+
+-- what a month reads beyond the places that it rewrites, where the months after it have been taken back
+beyond-month :
+    (round : Rounding) (F : List ℕ) (shape : Shape) (opening P : ℕ) (Ps before mid : List ℕ) → TakenBack round F shape (opening + gain) Ps before mid →
+    (k : ℕ) → k < shape .rows → (i : ℕ) →
+    kept (allowed-places shape (opening + gain)) (at (row-with shape mid k)) i ≡ beyond-opening round F shape opening (P ∷ Ps) before k i
+unfolding kept beyond-opening between
+beyond-month round F shape opening P Ps before mid h k l i = ⊎-elim past inside (below-or-not (opening + gain) i)
+  where
+    new : Row
+    new = values (month round F) (rule-by shape) (values-in shape (largest-level (opening + gain) (length Ps)) before) Ps k
+
+    inside : i ≤ opening + gain → kept (allowed-places shape (opening + gain)) (at (row-with shape mid k)) i ≡ kept (allowed-places shape (opening + gain)) (λ i. new (opening + gain - i)) i
+    inside m =
+        let place : opening + gain - (opening + gain - i) ≡ i = omega arith in
+        ap (λ (v : ℕ). cond (allowed-places shape (opening + gain) i) v 0)
+        (rw place at (h .each k l (opening + gain - i) (omega arith)))
+
+    past : opening + gain < i → kept (allowed-places shape (opening + gain)) (at (row-with shape mid k)) i ≡ kept (allowed-places shape (opening + gain)) (λ i. new (opening + gain - i)) i
+    past m = rw (le-ltb i (opening + gain + 1 - shape .low) (omega arith)) (neither (leb (opening + gain + 1 - shape .above) i) (at (row-with shape mid k) i) (new (opening + gain - i)))
 
 pub taken-back-more :
     (round : Rounding) (F : List ℕ) (shape : Shape) (opening P : ℕ) (Ps before mid after : List ℕ) →
     TakenBack round F shape (opening + gain) Ps before mid →
     ((k : ℕ) → k < shape .rows → (s : ℕ) → s + gain ≤ opening + gain →
     values-in shape (opening + gain - gain) after k s ≡ month-back (month round F) (rule-by shape) P (values-in shape (opening + gain) mid) k s) →
+    ((k : ℕ) → k < shape .rows → (i : ℕ) → opening + gain < i + gain → i < shape .width →
+    at (row-with shape after k) i ≡ kept (allowed-places shape (opening + gain)) (at (row-with shape mid k)) i) →
     TakenBack round F shape opening (P ∷ Ps) before after
 unfolding values
-taken-back-more round F shape opening P Ps before mid after h back =
+taken-back-more round F shape opening P Ps before mid after h back beyond =
     record {
       each =
           λ k l s m.
@@ -99,6 +129,7 @@ taken-back-more round F shape opening P Ps before mid after h back =
           ∙ month-back-agree round F (rule-by shape) (rule-by shape) (shape .rows) (opening + gain) (shape-agrees shape (opening + gain)) P
           (values-in shape (opening + gain) mid) (values (month round F) (rule-by shape) (values-in shape (largest-level (opening + gain) (length Ps)) before) Ps)
           (opening + gain) (omega arith) (h .each) k l s (omega arith));
+      beyond = λ k l i a b. beyond k l i (omega arith) b ∙ beyond-month round F shape opening P Ps before mid h k l i;
     }
 
 pub no-chances : (Ps : List ℕ) → length Ps < 1 → Ps ≡ []

@@ -3,8 +3,8 @@ use mathlib.Core.Path.{refl}
 use native.Mathlib.Omega.{arith}
 use Rattle.model.specs.Scale.{S}
 use Rattle.month_rule.specs.Rows.{round-by}
-use Rattle.month_rule.proofs.month.divide.Statement.{statement}
-use Rattle.month_rule.proofs.month.divide.Tie as tie
+use Rattle.month_rule.proofs.value.divide.Statement.{statement}
+use Rattle.month_rule.proofs.value.divide.Tie as tie
 
 add-result : tie.Need-add-result
 unfolding S

@@ -3,8 +3,8 @@ use Prim.Native.Nat.{_+_, _*_, _-_, _≤_}
 use native.Mathlib.Omega.{arith}
 use Rattle.model.specs.Scale.{S}
 use Rattle.model.proofs.Month.{mixture-le}
-use Rattle.month_rule.proofs.month.mixture.Statement.{statement}
-use Rattle.month_rule.proofs.month.mixture.Tie as tie
+use Rattle.month_rule.proofs.value.mixture.Statement.{statement}
+use Rattle.month_rule.proofs.value.mixture.Tie as tie
 
 fits : (c : tie.Start) → (S - c .args .chance) * c .args .otherwise + c .args .chance * c .args .then ≤ S * S
 fits c = mixture-le (c .args .chance) (c .args .otherwise) (c .args .then) S (c .pre .0) (c .pre .1) (c .pre .2)

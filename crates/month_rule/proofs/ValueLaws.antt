@@ -1,9 +1,9 @@
 -- Laws of one value: the claim sum as a loop goes through it, and the rounding by a bias.
-use mathlib.Core.Path.{_≡_, refl, ap, fun-ext}
+use mathlib.Core.Path.{_≡_, refl, fun-ext}
 use mathlib.Core.Logic.{_⊎_, inl, inr, ⊎-elim}
 use mathlib.Core.List.{List}
 use Prim.Native.Nat.{ℕ, zero, suc, _+_, _*_, _-_, _≤_, zero-le, suc-le-suc, _<_, min}
-use native.Mathlib.Nat.{add-zero, le-trans, mul-le-mul-right}
+use native.Mathlib.Nat.{zero-add, add-zero, sub-zero, le-trans, mul-le-mul-right}
 use native.Mathlib.Numerals.{add-one}
 use native.Mathlib.Omega.{arith}
 use lib.ListN.{length, getD, drop, drop-of-length-le}
@@ -31,7 +31,7 @@ claim-sum-more F Y r x l =
     rw (add-one, drop-cons F x 0 inF, here, below) (claim-sum-cons (getD F x 0) (drop (suc x) F) Y (r - suc (suc x)))
 
 -- no size left, or no level above 0
-pub claim-sum-end : (F : List ℕ) (Y : Row) (r x : ℕ) → min (r - 1) (length F) ≤ x → claim-sum (drop x F) Y (r - x) ≡ 0
+claim-sum-end : (F : List ℕ) (Y : Row) (r x : ℕ) → min (r - 1) (length F) ≤ x → claim-sum (drop x F) Y (r - x) ≡ 0
 claim-sum-end F Y r x l =
     ⊎-elim (λ n. rw (drop-of-length-le F {i = x} n) (claim-sum-none Y (r - x))) (λ n. claim-sum-ground (drop x F) Y (r - x) (omega arith)) (either (length F) (r - 1) x l)
   where
@@ -42,18 +42,33 @@ claim-sum-end F Y r x l =
 pub claim-sum-fits : (F : List ℕ) (Y : Row) → total F ≤ S → ((s : ℕ) → Y s ≤ S) → (s : ℕ) → claim-sum F Y s ≤ S * S
 claim-sum-fits F Y hF hY s = le-trans (claim-sum-bound F Y S hY s) (mul-le-mul-right S hF)
 
--- a turn of the loop over the values of the levels n to 1: what the sum so far and the term come to, and that with the rest it is the whole
-pub claim-sum-turn :
-    (F xs : List ℕ) → total F ≤ S → Parts xs → (x sum : ℕ) → x < min (length xs) (length F) →
-    sum + claim-sum (drop x F) (from-top (length xs) xs) (length xs + 1 - x) ≡ claim-sum F (from-top (length xs) xs) (length xs + 1) →
-    (sum + getD F x 0 * getD xs x 0 ≤ S * S)
-    × (sum + getD F x 0 * getD xs x 0 + claim-sum (drop (x + 1) F) (from-top (length xs) xs) (length xs + 1 - (x + 1))
-    ≡ claim-sum F (from-top (length xs) xs) (length xs + 1))
-claim-sum-turn F xs hF hY x sum l e =
+-- The loop over the sizes and the values that they lead to, those of the levels n to 1: the sum so far and the sum of the rest are the whole.
+pub record Summing (F xs : List ℕ) (most sum x : ℕ) : Type 0 where
+  pub within : x ≤ most
+  pub most-is : most ≡ min (length xs) (length F)
+  pub whole :
+      sum + claim-sum (drop x F) (from-top (length xs) xs) (length xs + 1 - x) ≡ claim-sum F (from-top (length xs) xs) (length xs + 1)
+
+pub summing-start : (F xs : List ℕ) (most : ℕ) → most ≡ min (length xs) (length F) → Summing F xs most 0 0
+summing-start F xs most e = record { within = omega arith; most-is = e; whole = rw (zero-add, sub-zero) }
+
+-- one term more, which the whole bounds
+pub summing-turn :
+    (F xs : List ℕ) → total F ≤ S → Parts xs → (most sum x : ℕ) → x < most → Summing F xs most sum x →
+    (weight value : ℕ) → weight ≡ getD F x 0 → value ≡ getD xs x 0 → (sum + weight * value ≤ S * S) × Summing F xs most (sum + weight * value) (x + 1)
+summing-turn F xs hF hY most sum x l h weight value ew ev =
     let n : ℕ = length xs in
     let here : n - (n + 1 - (x + 1)) ≡ x = omega arith in
-    let term : getD F x 0 * from-top n xs (n + 1 - (x + 1)) ≡ getD F x 0 * getD xs x 0 = ap (λ (i : ℕ). getD F x 0 * getD xs i 0) here in
-    omega (arith, term, claim-sum-more F (from-top n xs) (n + 1) x (omega arith), claim-sum-fits F (from-top n xs) hF (λ s. hY .each (n - s)) (n + 1))
+    let term : getD F x 0 * from-top n xs (n + 1 - (x + 1)) ≡ weight * value = rw (here, ew, ev) in
+    let more = claim-sum-more F (from-top n xs) (n + 1) x (omega (arith, h .most-is)) in (
+      omega (arith, term, more, h .whole, claim-sum-fits F (from-top n xs) hF (λ s. hY .each (n - s)) (n + 1)),
+      record { within = omega arith; most-is = h .most-is; whole = omega (arith, term, more, h .whole) },
+    )
+
+pub summing-end :
+    (F xs : List ℕ) (most sum x : ℕ) → most ≤ x → Summing F xs most sum x → sum ≡ claim-sum F (from-top (length xs) xs) (length xs + 1)
+summing-end F xs most sum x l h =
+    omega (arith, h .whole, claim-sum-end F (from-top (length xs) xs) (length xs + 1) x (omega (arith, h .most-is)))
 
 -- a quotient by S, rounded either way, of what does not pass S × S
 pub round-by-le : (bias x : ℕ) → bias < S → x ≤ S * S → round-by bias x ≤ S

@@ -1,8 +1,8 @@
 -- `month_value` meets its contract: the rounded claim sum is at most S.
-use Rattle.month_rule.proofs.MonthLaws.{round-by-le}
+use Rattle.month_rule.proofs.ValueLaws.{round-by-le}
 use borrow.Author.Needs.{needs}
-use Rattle.month_rule.proofs.month.month_value.Statement.{statement}
-use Rattle.month_rule.proofs.month.month_value.Tie as tie
+use Rattle.month_rule.proofs.value.month_value.Statement.{statement}
+use Rattle.month_rule.proofs.value.month_value.Tie as tie
 
 divide-requires : tie.Need-divide-requires
 divide-requires c κs = search needs

@@ -1,0 +1,245 @@
+"""The inputs of the test programs `vectors` and `reports`: both sides of each limit, worked out from the limits of rules.py, and random plans."""
+import itertools
+import random
+from collections import namedtuple
+
+from plans import EXAMPLE, EXAMPLE_BYTES, ONE_SIZE, WORKED, changed, flat, flipped, geometric, long_plans, questions, some_plan, split
+from records import FULL_NUMBER, Calls
+from rules import CLAIMS, HEAD_BYTES, LARGEST, LEVEL, MONTHS, NUMBER_BITS, OPENING, SIZES, SURVIVE, WIDTHS, Head, Question, S
+from rules import bit_length, byte_length, plan_checks, refusal, row_length, workspace_needed, write_bytes
+
+FULL = 2**64 - 1  # the largest number of a head or a question
+WIDEST = Head(*(2**width - 1 for width in WIDTHS))  # what a head's fields can say
+TAIL_SIZES = OPENING + MONTHS - 1  # the least sizes with which the longest plan of the largest opening may have over
+BRIEF = flat(3, 4, 5)  # a plan to damage: three chances, five weights, over
+
+# ---- Calls with a plan in memory
+
+
+def head_edges():
+    """The row is the one that the head asks for, as far as a row can be that long."""
+    for n in (0, 1, MONTHS, MONTHS + 1, FULL):
+        yield Head(n, 3, 2), flat(min(n, MONTHS + 1), 3, 2)[1]
+    for u in (0, 1, OPENING, OPENING + 1, FULL):
+        yield Head(2, u, 2), flat(2, u, 2)[1]
+    for m in (1, 2, SIZES, SIZES + 1, FULL):
+        yield Head(2, 3, m), flat(2, 3, min(m, SIZES + 1))[1]
+    yield Head(2, 3, 0), [0, 0, S]
+    yield Head(0, 0, 0), [S]
+
+
+def row_edges():
+    head, row = BRIEF
+    n, length = head.months, len(row)
+    for cut in (0, 1, length - 1, length, length + 1):
+        yield head, (row + [0])[:cut]
+    for at in (0, n - 1, n, length - 2, length - 1):  # the first and last chance, the first and last weight, over
+        for x in (S, S + 1, 2**NUMBER_BITS - 1, 2**NUMBER_BITS, FULL_NUMBER):
+            yield head, changed(row, at, x)
+    for last in (S - 1, S, 1, 0):
+        yield head, changed(row, -2, last)
+        yield head, row[:n] + [1] * 4 + [last - 4 if last > 4 else 0, 0]
+    yield Head(1, 1, 5), [0] + [S] * 5 + [0]  # the weights add to S once 2^32 is taken off
+    yield Head(1, 1, 6), [0] + [S - 1] * 4 + [S, 4] + [0]
+    yield Head(1, 1, 1), [S, 0, S]
+
+
+def tail_edges():
+    """Over above 0 and none, at m + 1 = u + n and around it."""
+    small = (1, 2, 2), (1, 3, 2), (1, 4, 2), (0, 3, 2), (0, 4, 2)
+    large = (MONTHS, OPENING, TAIL_SIZES), (MONTHS, OPENING, TAIL_SIZES - 1), (MONTHS, OPENING + 1, TAIL_SIZES + 1)
+    for n, u, m in (*small, *large, (5, 0, 4), (6, 0, 4)):
+        yield flat(n, u, m, 1)
+        yield flat(n, u, m)
+
+
+# ---- Asks
+
+Ask = namedtuple("Ask", "head row question room")
+ENOUGH = 3000  # numbers of workspace, where the question needs more than can be lent and is refused for its number
+
+
+def number_edges():
+    numbers = 0, 1, CLAIMS, CLAIMS + 1, CLAIMS + 2, LEVEL - 1, LEVEL, LEVEL + 1, 2**32, FULL
+    for word, number in itertools.product(("both", "high", "low"), numbers):
+        question = Question(word, number)
+        yield Ask(*BRIEF, question, min(workspace_needed(BRIEF[0], question), ENOUGH))
+
+
+def room_edges():
+    for question in (SURVIVE, Question("both", 0), Question("both", CLAIMS), Question("high", 6), Question("low", 2)):
+        needed = workspace_needed(BRIEF[0], question)
+        for room in (0, 1, needed - 1, needed, needed + 1, needed + 40):
+            yield Ask(*BRIEF, question, room)
+    asked = SURVIVE, Question("both", 2), Question("high", 6), Question("low", 2), Question("low", 0), Question("high", 0)
+    for n, u in ((0, 0), (0, 7), (7, 0), (MONTHS, OPENING)):
+        plan = flat(n, u, 3)
+        for question in asked:
+            needed = workspace_needed(plan[0], question)
+            for room in (needed - 1, needed, needed + 1):
+                yield Ask(*plan, question, room)
+
+
+# What turns a row of BRIEF away, by number.
+ROW_FAULTS = {
+    7: lambda row: changed(row, 0, S + 1),
+    8: lambda row: changed(row, 3, 7),
+    9: lambda row: changed(changed(row, -1, 1), -2, S - 1),
+}
+
+# What turns an ask away, by number: each takes an ask to one that the number fits.
+ASK_FAULTS = {
+    2: lambda ask: ask._replace(head=ask.head._replace(months=MONTHS + 1)),
+    3: lambda ask: ask._replace(head=ask.head._replace(opening=OPENING + 1)),
+    4: lambda ask: ask._replace(head=ask.head._replace(sizes=SIZES + 1)),
+    5: lambda ask: ask._replace(row=ask.row + [0]),
+    7: lambda ask: ask._replace(row=ROW_FAULTS[7](ask.row)),
+    8: lambda ask: ask._replace(row=ROW_FAULTS[8](ask.row)),
+    9: lambda ask: ask._replace(row=ROW_FAULTS[9](ask.row)),
+    10: lambda ask: ask._replace(question=Question("low", LEVEL + 1)),
+    11: lambda ask: ask._replace(room=0),
+}
+
+
+def fault_pairs():
+    """Asks that two numbers of the table fit: the smaller one counts."""
+    whole = Ask(*BRIEF, SURVIVE, workspace_needed(BRIEF[0], SURVIVE))
+    for one, other in itertools.combinations_with_replacement(ASK_FAULTS, 2):
+        yield ASK_FAULTS[one](ASK_FAULTS[other](whole))
+
+
+# ---- Plan bytes
+
+
+def last_bit_flipped(data):
+    return flipped(data, 8 * len(data) - 1)
+
+
+def example_damaged():
+    """Every length, and every bit turned over."""
+    for length in range(len(EXAMPLE_BYTES) + 2):
+        yield (EXAMPLE_BYTES + b"\0")[:length]
+    for bit in range(8 * len(EXAMPLE_BYTES)):
+        yield flipped(EXAMPLE_BYTES, bit)
+
+
+def head_byte_edges():
+    """Heads at the limits and one past them, each at its length, one byte longer and one shorter."""
+    past = (LARGEST._replace(**{name: most + 1}) for name, most in LARGEST._asdict().items())
+    for head in (LARGEST, *past, WIDEST, LARGEST._replace(sizes=0), Head(0, 0, 1), Head(0, 0, 0)):
+        plain = write_bytes(head, ([0] * head.months + [S] + [0] * head.sizes)[: row_length(head)])
+        yield from (plain, plain + b"\0", plain[:-1])
+    yield b"\xff" * (byte_length(LARGEST) + 1)
+
+
+def row_byte_edges():
+    longest = (MONTHS, OPENING, TAIL_SIZES), (MONTHS, OPENING, TAIL_SIZES - 1)
+    for n, u, m in ((1, 2, 2), (1, 3, 2), (0, 3, 2), (0, 4, 2), *longest):  # over, at m + 1 = u + n and one below
+        yield write_bytes(*flat(n, u, m, 1))
+    head, row = BRIEF
+    for one, other in itertools.combinations(ROW_FAULTS, 2):
+        data = write_bytes(head, ROW_FAULTS[one](ROW_FAULTS[other](row)))
+        yield from (data, last_bit_flipped(data))  # the second has a fill bit as well
+
+
+# ---- All calls of `vectors`, in their order
+
+
+def add_edges(calls):
+    for head, row, question, *_ in WORKED:
+        calls.ask(head, row, question)
+    both = Question("both", 1)
+    for head, row in itertools.chain(head_edges(), row_edges(), tail_edges()):
+        calls.ask(head, row, both, room=min(workspace_needed(head, both), ENOUGH))
+        calls.count(head, row)
+        calls.write(head, row, room=4 if refusal(plan_checks(head, row)) else byte_length(head))
+    for ask in itertools.chain(number_edges(), room_edges(), fault_pairs()):
+        calls.ask(*ask)
+    for data in itertools.chain(example_damaged(), head_byte_edges(), row_byte_edges()):
+        calls.read(data)
+
+
+def add_lent_memory(calls):
+    """What a lent part held before, and its length around what is needed."""
+    head, _ = EXAMPLE
+    for fill in (0, 1, S, 2**31, FULL_NUMBER):
+        for question in (SURVIVE, Question("both", 2), Question("high", 2), Question("low", 2)):
+            calls.ask(*EXAMPLE, question, workspace_needed(head, question) + 3, fill)
+        calls.read(EXAMPLE_BYTES, row_length(head), fill)
+        for more in (-row_length(head), -1, 1, 4):
+            calls.read(EXAMPLE_BYTES, row_length(head) + more, fill)
+            calls.write(*EXAMPLE, byte_length(head) + more, fill % 256)
+
+
+def add_random_asks(calls, rng, head, row, asked):
+    for question in asked:
+        calls.ask(head, row, question, workspace_needed(head, question) + rng.randrange(3), rng.getrandbits(32))
+
+
+def add_random_plans(calls, rng):
+    for _ in range(40):  # small plans, all questions
+        head, row = some_plan(rng, rng.randrange(5), rng.randrange(5), rng.randrange(1, 8))
+        add_random_asks(calls, rng, head, row, questions(head))
+    for head, row in long_plans(rng):
+        calls.count(head, row)
+        calls.write(head, row, byte_length(head) + 1)
+        calls.read(write_bytes(head, row), row_length(head) + 1)
+        levels = Question("high", head.opening + head.months // 2), Question("low", head.opening // 2)
+        add_random_asks(calls, rng, head, row, (SURVIVE, *levels, Question("both", 3), Question("both", CLAIMS)))
+
+
+def all_calls():
+    calls = Calls()
+    add_edges(calls)
+    add_lent_memory(calls)
+    add_random_plans(calls, random.Random(1))
+    return calls
+
+
+def repeated_calls(question, times):
+    """One question on the largest plan, over and over, to time it."""
+    head, row = next(long_plans(random.Random(1)))
+    calls = Calls()
+    calls.use(row)
+    for _ in range(times):
+        calls.record(question.word, head, question.number, workspace_needed(head, question))
+    return calls
+
+
+# ---- Plans whose whole report is held to these rules
+
+
+def refused_bytes():
+    """Plan bytes that the numbers 1 to 9 turn away, in this order."""
+    head, row = BRIEF
+    good, longest = write_bytes(head, row), write_bytes(*flat(*LARGEST))
+    yield from (b"", good[: HEAD_BYTES - 1])
+    yield write_bytes(*flat(MONTHS + 1, 4, 5))
+    yield write_bytes(*flat(3, OPENING + 1, 5))
+    yield write_bytes(*flat(3, 4, SIZES + 1))
+    yield write_bytes(Head(3, 4, 0), row[:3] + [S])
+    yield from (good[:HEAD_BYTES], good[:-1], good + b"\0", longest[:-1], longest + b"\0", longest * 2)
+    yield last_bit_flipped(good)
+    yield flipped(EXAMPLE_BYTES, bit_length(EXAMPLE[0]))  # the first of the fill bits
+    for at in (0, 3, 8):  # a chance, a weight, over
+        yield write_bytes(head, changed(row, at, S + 1))
+    yield from (write_bytes(head, changed(row, 7, S - 1)), write_bytes(head, changed(row, 8, 1)))
+    yield write_bytes(*flat(3, 4, 5, 1))
+
+
+def reported_plans(rng):
+    """Accepted plans, from the smallest to the largest."""
+    yield from (EXAMPLE, (Head(0, 0, 1), ONE_SIZE), flat(0, 7, 3), flat(0, 7, 6, S // 3), flat(1, 0, 1), flat(3, 4, 6, 1))
+    for u, chance in itertools.product((0, 9), (0, S)):
+        yield Head(12, u, 6), [chance] * 12 + split(rng, 6, 0) + [0]
+    around_claims = (CLAIMS - 1, 12, 5), (CLAIMS, 0, 30), (CLAIMS + 1, 10, CLAIMS + 10)  # where the lines of both end at n and at CLAIMS
+    for n, u, m in ((1, OPENING, SIZES), (MONTHS, 0, 1), *around_claims, (36, 20, 12)):
+        yield some_plan(rng, n, u, m)
+    yield Head(30, 15, 50), [rng.randrange(S // 4) for _ in range(30)] + geometric(50)
+    yield LARGEST, [rng.randrange(1, S // 25) for _ in range(MONTHS)] + split(rng, SIZES + 1, 0)
+
+
+def reported_bytes():
+    yield from refused_bytes()
+    for head, row in reported_plans(random.Random(3)):
+        yield write_bytes(head, row)

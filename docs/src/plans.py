@@ -1,0 +1,112 @@
+"""Plans to try: document 01's own, plain ones, and random ones from small to the largest. A plan is a pair of a head and a row."""
+from rules import CLAIMS, LARGEST, MONTHS, OPENING, SIZES, SURVIVE, Head, Question, S, largest_level
+
+# ---- Document 01's plans
+
+ONE_SIZE = [S, 0]  # F_1 = S and no over
+EXAMPLE = Head(2, 1, 2), [S // 2] * 4 + [0]  # the report's plan
+EXAMPLE_BYTES = bytes.fromhex("04 02 02 40 00 00 00 80 00 00 01 00 00 00 02 00 00 00 00 00 00 00 00")
+EXAMPLE_TEXT = """months 2 opening 1 sizes 2
+survive 738197504 738197504
+claims 0 268435456 268435456
+claims 1 536870912 536870912
+claims 2 268435456 268435456
+both 0 268435456 268435456
+both 1 402653184 402653184
+both 2 67108864 67108864
+high 1 67108864 67108864
+high 2 469762048 469762048
+high 3 738197504 738197504
+low 1 738197504 738197504
+low 2 402653184 402653184
+"""
+
+WORKED = [  # "Funds worked by hand": head, row, question, refusal, lower, upper (None: the paper only says accepted or answered)
+    (Head(0, 0, 1), ONE_SIZE, SURVIVE, 0, S, S),
+    (Head(1, 0, 1), [S // 2] + ONE_SIZE, SURVIVE, 0, S // 2, S // 2),
+    (Head(1, 1, 1), [S // 2] + ONE_SIZE, SURVIVE, 0, S, S),
+    (Head(1, 0, 1), [S] + ONE_SIZE, SURVIVE, 0, 0, 0),
+    (Head(1, 1, 2), [1, 1, S - 1, 0], SURVIVE, 0, 1073741823, 1073741824),
+    (Head(2, 1, 2), [1, 1, 1, S - 1, 0], SURVIVE, 0, 1073741823, 1073741824),
+    (Head(1, 5, 1), [0] + ONE_SIZE, Question("high", 5), 0, 0, 0),
+    (Head(1, 5, 1), [0] + ONE_SIZE, Question("high", 6), 0, S, S),
+    (Head(1, 5, 2), [S // 2, 0, S, 0], Question("high", 4), 0, S // 2, S // 2),
+    (*EXAMPLE, SURVIVE, 0, 738197504, 738197504),
+    (*EXAMPLE, Question("both", 1), 0, 402653184, 402653184),
+    (*EXAMPLE, Question("low", 2), 0, 402653184, 402653184),
+    (Head(1, 2, 2), [S // 2, S - 1, 0, 1], SURVIVE, 0, None, None),
+    (Head(1, 3, 2), [S // 2, S - 1, 0, 1], SURVIVE, 9, 0, 0),
+    (Head(MONTHS, 0, 1), [S // 2] * MONTHS + ONE_SIZE, SURVIVE, 0, None, None),
+    (Head(MONTHS + 1, 0, 1), [S // 2] * (MONTHS + 1) + ONE_SIZE, SURVIVE, 2, 0, 0),
+    (*EXAMPLE, Question("both", CLAIMS), 0, None, None),
+    (*EXAMPLE, Question("both", CLAIMS + 1), 10, 0, 0),
+]
+
+
+def questions(head):
+    """Every question on a small plan, one past the largest level or number of claims that it can reach included."""
+    yield SURVIVE
+    for k in range(head.months + 2):
+        yield Question("both", k)
+    for level in range(largest_level(head) + 2):
+        yield Question("high", level)
+        yield Question("low", level)
+
+
+# ---- Plain plans, and changes to them
+
+
+def flat(n, u, m, tail=0):
+    """A plan with every chance S/2 and all weight on the largest size, less the tail."""
+    return Head(n, u, m), [S // 2] * n + [0] * (m - 1) + [S - tail, tail]
+
+
+def changed(row, at, x):
+    after = list(row)
+    after[at] = x
+    return after
+
+
+def flipped(data, at):
+    """Plan bytes with one bit turned over."""
+    return (int.from_bytes(data, "big") ^ 1 << (8 * len(data) - 1 - at)).to_bytes(len(data), "big")
+
+
+# ---- Random plans
+
+
+def some_chance(rng):
+    return rng.choice([0, 1, S // 2, S - 1, S, rng.randrange(S + 1), rng.randrange(S + 1), rng.randrange(S + 1)])
+
+
+def split(rng, parts, empty):
+    """parts numbers that add to S; each is 0 with a chance of empty in 8, where one at least is left."""
+    cuts = [rng.randrange(1, 2**16) if rng.randrange(8) >= empty else 0 for _ in range(parts)]
+    if not any(cuts):
+        cuts[rng.randrange(parts)] = 1
+    shares = [cut * S // sum(cuts) for cut in cuts]
+    shares[next(i for i, cut in enumerate(cuts) if cut)] += S - sum(shares)
+    return shares
+
+
+def some_plan(rng, n, u, m):
+    """An accepted head and row."""
+    head, chances = Head(n, u, m), [some_chance(rng) for _ in range(n)]
+    if m + 1 >= largest_level(head) and rng.randrange(2):
+        return head, chances + split(rng, m + 1, 2)
+    return head, chances + split(rng, m, rng.choice([0, 2, 7])) + [0]
+
+
+def geometric(m):
+    """The weights of source document 000, (4.2), with alpha = 3/4: rounded down, and over is what is missing."""
+    weights = [S * 3 ** (x - 1) // 4**x for x in range(1, m + 1)]
+    return weights + [S - sum(weights)]
+
+
+def long_plans(rng):
+    """Plans up to the largest: rare large claims, many small ones, and some of every kind."""
+    yield LARGEST, [rng.randrange(S // 25) for _ in range(MONTHS)] + split(rng, SIZES, 0) + [0]
+    yield LARGEST, [rng.randrange(S) for _ in range(MONTHS)] + geometric(SIZES)
+    yield LARGEST._replace(opening=0), [rng.randrange(S // 25) for _ in range(MONTHS)] + geometric(SIZES)
+    for n, u, m in ((MONTHS, OPENING, 1), (0, OPENING, SIZES), (MONTHS - 1, 37, 100), (17, 150, 166)):
+        yield some_plan(rng, n, u, m)

@@ -1,0 +1,96 @@
+"""What the test programs read, and the lines that `vectors` has to print.
+
+The input of `vectors` is a list of records: eight words of 8 bytes, most significant byte first (kind, months, opening, sizes, number, room,
+fill, length), then what the kind asks. `row` sets the row that later records use: length numbers of 4 bytes. The four questions ask with that
+row, `number` as k or L and a workspace of `room` numbers that each hold `fill`. `count` asks for the count row. `write` lends `room` bytes and
+`read` a row of `room` numbers, each holding `fill`; `read` is followed by the plan's `length` bytes.
+Its output has a line for each record but `row`: the refusal's number, the numbers answered, and the lent memory after the call, which is the
+bytes of `write` in hexadecimal and otherwise a checksum.
+
+`reports` and `tables` read plans one after another: two bytes with a plan's length, most significant first, and its bytes.
+"""
+import itertools
+
+from rules import CLAIMS, HEAD_BYTES, LARGEST, PLACES, Head, Question, ask_checks, bounds, count_row, down, plan_checks, plan_of
+from rules import read_bytes, read_checks, refusal, row_length, up, workspace_needed, write_bytes, write_checks
+
+KINDS = ["row", "survive", "both", "high", "low", "count", "write", "read"]
+FULL_NUMBER = 2**32 - 1  # the largest number that a row or a workspace can hold
+
+# The program's capacities: ROW and BYTES of crates/vectors/src/record.rt, ROOM of calls.rt. It passes over a record that needs more.
+ROW, BYTES = 400, 2560
+ROOM = workspace_needed(LARGEST, Question("both", CLAIMS)) + 6
+
+
+def plan_list(plans):
+    return b"".join(len(data).to_bytes(2, "big") + data for data in plans)
+
+
+def checksum(memory):
+    total = 0
+    for x in memory:
+        total = (total * 31 + x) % 1000000007
+    return total
+
+
+def fitting(needed, capacity):
+    if needed > capacity:
+        raise ValueError(f"the program `vectors` has room for {capacity}, the record needs {needed}")
+    return needed
+
+
+class Calls:
+    """The records of the calls, the line that each has to give, and in words what was called."""
+
+    def __init__(self):
+        self.records, self.lines, self.labels, self.row = [], [], [], None
+
+    def record(self, kind, head=Head(0, 0, 0), number=0, room=0, fill=0, payload=b"", length=0):
+        words = (KINDS.index(kind), *head, number, room, fill, length)
+        self.records.append(b"".join(word.to_bytes(8, "big") for word in words) + payload)
+
+    def answers(self, label, *numbers):
+        self.labels.append(label)
+        self.lines.append(" ".join(map(str, numbers)))
+
+    def use(self, row):
+        if row != self.row:
+            self.record("row", payload=b"".join(x.to_bytes(4, "big") for x in row), length=fitting(len(row), ROW))
+            self.row = row
+
+    def ask(self, head, row, question, room=None, fill=FULL_NUMBER):
+        needed = workspace_needed(head, question)
+        room = needed if room is None else room
+        self.use(row)
+        self.record(question.word, head, question.number, fitting(room, ROOM), fill)
+        number = refusal(ask_checks(head, row, question, room))
+        low, high = (0, 0) if number else bounds(plan_of(head, row), question)
+        after = [fill] * room if number else [0] * needed + [fill] * (room - needed)
+        label = f"{question.word} {question.number} of {tuple(head)}, row of {len(row)}, workspace of {room} holding {fill}"
+        self.answers(label, number, low, high, checksum(after))
+
+    def count(self, head, row):
+        self.use(row)
+        self.record("count", head)
+        number = refusal(plan_checks(head, row))
+        plan = None if number else plan_of(head, row)
+        rows = [[0] * PLACES, [0] * PLACES] if number else [count_row(plan, down), count_row(plan, up)]
+        self.answers(f"count row of {tuple(head)}, row of {len(row)}", number, *itertools.chain(*zip(*rows)))
+
+    def write(self, head, row, room, fill=255):
+        self.use(row)
+        self.record("write", head, room=fitting(room, BYTES), fill=fill)
+        number = refusal(write_checks(head, row, room))
+        data = b"" if number else write_bytes(head, row)
+        label = f"write {tuple(head)}, row of {len(row)}, into {room} bytes holding {fill}"
+        self.answers(label, number, len(data), *(f"{byte:02x}" for byte in data + bytes([fill] * (room - len(data)))))
+
+    def read(self, data, room=None, fill=FULL_NUMBER):
+        """With no room given, as many numbers as the head asks, or all that the program has."""
+        head, row, _ = read_bytes(data) if len(data) >= HEAD_BYTES else (Head(0, 0, 0), None, None)
+        room = min(row_length(head), ROW) if room is None else room
+        self.record("read", room=fitting(room, ROW), fill=fill, payload=data, length=fitting(len(data), BYTES))
+        number = refusal(read_checks(data, room))
+        head, row = (Head(0, 0, 0), []) if number else (head, row)
+        label = f"read {len(data)} bytes {data[:HEAD_BYTES].hex()}.. into a row of {room} holding {fill}"
+        self.answers(label, number, *head, checksum(row + [fill] * (room - len(row))))

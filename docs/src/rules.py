@@ -1,0 +1,228 @@
+"""Document 01's rules: plans and plan bytes, what is turned away, the month rule, the count row, the report.
+
+Written from document 01 and its source documents alone, not from the engine or its definitions.
+"""
+import math
+from collections import namedtuple
+from fractions import Fraction
+from itertools import accumulate, pairwise
+from operator import mul
+
+S = 2**30
+MONTHS, OPENING, SIZES, CLAIMS, LEVEL = 60, 200, 260, 24, 260  # the limits of n, u, m, of k in both, of L in high and low
+LONGEST = 1247  # "The longest plan is 1,247 bytes": the paper's figure, to which the self-test holds byte_length
+PLACES = MONTHS + 1  # of the count row
+
+Head = namedtuple("Head", "months opening sizes")
+Plan = namedtuple("Plan", "head chances weights tail")  # the tail is the paper's "over"
+Question = namedtuple("Question", "word number")
+
+LARGEST = Head(MONTHS, OPENING, SIZES)
+SURVIVE = Question("survive", 0)
+MOST = {"survive": math.inf, "both": CLAIMS, "high": LEVEL, "low": LEVEL}  # the largest number of a question
+
+
+def plan_of(head, row):
+    """A plan from its head and its row: chances, weights, over."""
+    n, m = head.months, head.sizes
+    return Plan(head, row[:n], row[n : n + m], row[n + m])
+
+
+def largest_level(head):
+    return head.opening + head.months
+
+
+# ---- Plan bytes
+
+WIDTHS = Head(7, 8, 9)  # "n in 7 bits, u in 8, m in 9"
+NUMBER_BITS = 31  # "then the row at 31 bits a number"
+HEAD_BITS = sum(WIDTHS)
+HEAD_BYTES = -(-HEAD_BITS // 8)  # fewer are a stub
+
+
+def row_length(head):
+    return head.months + head.sizes + 1
+
+
+def bit_length(head):
+    """Without the fill bits."""
+    return HEAD_BITS + NUMBER_BITS * row_length(head)
+
+
+def byte_length(head):
+    return -(-bit_length(head) // 8)
+
+
+def fields(bits, widths):
+    """The numbers of these widths, from the first bit on."""
+    return [int(bits[start:end], 2) for start, end in pairwise(accumulate(widths, initial=0))]
+
+
+def write_bytes(head, row):
+    bits = "".join(f"{x:0{width}b}" for x, width in zip(head, WIDTHS))
+    bits += "".join(f"{x:0{NUMBER_BITS}b}" for x in row)
+    bits += "0" * (-len(bits) % 8)
+    return bytes(int(bits[i : i + 8], 2) for i in range(0, len(bits), 8))
+
+
+def read_bytes(data):
+    """The head, the row and the fill bits. Only the head is there where the length is not the head's."""
+    bits = "".join(f"{byte:08b}" for byte in data)
+    head = Head(*fields(bits, WIDTHS))
+    if len(data) != byte_length(head):
+        return head, None, None
+    return head, fields(bits[HEAD_BITS:], [NUMBER_BITS] * row_length(head)), bits[bit_length(head) :]
+
+
+# ---- Turned away: an entry's checks go in the order of the table's numbers
+
+
+def refusal(checks):
+    """The number of the first check that fits; 0 is none."""
+    return next((number for number, fits in checks if fits), 0)
+
+
+def head_checks(head):
+    yield 2, head.months > MONTHS
+    yield 3, head.opening > OPENING
+    yield 4, head.sizes == 0 or head.sizes > SIZES
+
+
+def row_checks(head, row):
+    yield 7, any(x > S for x in row)
+    yield 8, sum(row[head.months :]) != S
+    yield 9, row[-1] > 0 and head.sizes + 1 < largest_level(head)
+
+
+def plan_checks(head, row):
+    yield from head_checks(head)
+    yield 5, len(row) != row_length(head)
+    yield from row_checks(head, row)
+
+
+def ask_checks(head, row, question, room):
+    yield from plan_checks(head, row)
+    yield 10, question.number > MOST[question.word]
+    yield 11, room < workspace_needed(head, question)
+
+
+def write_checks(head, row, room):
+    yield from plan_checks(head, row)
+    yield 11, room < byte_length(head)
+
+
+def read_checks(data, room):
+    yield 1, len(data) < HEAD_BYTES
+    head, row, fill = read_bytes(data)
+    yield from head_checks(head)
+    yield 5, row is None
+    yield 6, "1" in fill
+    yield from row_checks(head, row)
+    yield 11, room < row_length(head)
+
+
+def workspace_needed(head, question):
+    """The paper's desk: a row over the levels for each rounding, and for both k that times k + 1."""
+    rows = question.number + 1 if question.word == "both" else 1
+    return 2 * (largest_level(head) + 1) * rows
+
+
+# ---- The month rule and the count row, with the division by S as a parameter
+
+
+def down(x):
+    return x // S
+
+
+def up(x):
+    return -(-x // S)
+
+
+def unrounded(x):
+    return Fraction(x) / S
+
+
+def allowed(question, level):
+    if question.word == "high":
+        return level <= question.number
+    if question.word == "low":
+        return level >= question.number
+    return True
+
+
+def claim_sum(weights, after, s):
+    """The sum over x = 1 .. min(s, m) of F_x × after(s + 1 − x)."""
+    return sum(map(mul, weights, after[s:0:-1]))
+
+
+def month(divide, weights, chance, quiet, claimed, s):
+    """The value at level s before a month, from the rows read without and with a claim."""
+    return divide((S - chance) * quiet[s + 1] + chance * divide(claim_sum(weights, claimed, s)))
+
+
+def last_rows(plan, question):
+    """V_n over the levels 0, 1, ..: a row for each number of claims left to place, none left first."""
+    levels = largest_level(plan.head) + 1
+    unplaced = question.number if question.word == "both" else 0
+    return [[S] * levels] + [[0] * levels for _ in range(unplaced)]
+
+
+def month_back(plan, question, t, rows, divide):
+    """The rows V_{t-1} from the rows V_t, over the levels that month t can begin at."""
+    kept = [[v if allowed(question, s) else 0 for s, v in enumerate(row)] for row in rows]
+    claimed = kept
+    if question.word == "both":  # "a claim lowers it by one, and a claim with none left adds 0"
+        claimed = [[0] * len(kept[0]), *kept[:-1]]
+    chance, levels = plan.chances[t - 1], range(plan.head.opening + t)
+    return [[month(divide, plan.weights, chance, *pair, s) for s in levels] for pair in zip(kept, claimed)]
+
+
+def month_rule(plan, question, divide):
+    """V_0(u)."""
+    rows = last_rows(plan, question)
+    for t in range(plan.head.months, 0, -1):
+        rows = month_back(plan, question, t, rows, divide)
+    return rows[-1][plan.head.opening]
+
+
+def count_month(row, chance, divide):
+    return [divide(chance * fewer + (S - chance) * same) for fewer, same in zip([0, *row], row)]
+
+
+def count_row(plan, divide):
+    row = [S] + [0] * (PLACES - 1)
+    for chance in plan.chances:
+        row = count_month(row, chance, divide)
+    return row
+
+
+def bounds(plan, question):
+    return month_rule(plan, question, down), month_rule(plan, question, up)
+
+
+# ---- The reserve report
+
+
+def line_numbers(head):
+    """The numbers of each question's lines, in the report's order."""
+    yield "both", range(min(head.months, CLAIMS) + 1)
+    yield "high", range(1, largest_level(head) + 1)
+    yield "low", range(1, head.opening + 2)
+
+
+def report_lines(plan):
+    yield "months %d opening %d sizes %d" % plan.head
+    yield "survive %d %d" % bounds(plan, SURVIVE)
+    for k, pair in zip(range(plan.head.months + 1), zip(count_row(plan, down), count_row(plan, up))):
+        yield "claims %d %d %d" % (k, *pair)
+    for word, numbers in line_numbers(plan.head):
+        for number in numbers:
+            yield "%s %d %d %d" % (word, number, *bounds(plan, Question(word, number)))
+
+
+def report(data):
+    number = refusal(read_checks(data, math.inf))
+    if number:
+        return f"refused {number}\n"
+    head, row, _ = read_bytes(data)
+    return "".join(line + "\n" for line in report_lines(plan_of(head, row)))

@@ -1,0 +1,85 @@
+"""The rules held against the exact chances, the funds worked by hand and the paper's report."""
+import math
+import random
+from fractions import Fraction
+
+from exact import claim_chance, count_weight, encloses, first_claim_both, first_claim_survival, keeps_gap, outcomes, question_weight
+from plans import EXAMPLE, EXAMPLE_BYTES, EXAMPLE_TEXT, WORKED, questions, some_plan
+from rules import LARGEST, LONGEST, S, SURVIVE, ask_checks, bounds, byte_length, count_row, down, largest_level, month_rule, plan_of
+from rules import read_bytes, refusal, report, unrounded, up, workspace_needed, write_bytes
+
+
+class Tally:
+    def __init__(self):
+        self.passed, self.failed = {}, []
+
+    def check(self, name, holds, about):
+        self.passed[name] = self.passed.get(name, 0) + bool(holds)
+        if not holds:
+            self.failed.append(f"{name}: {about}")
+
+    def print(self):
+        for name, passed in self.passed.items():
+            print(f"{name}: {passed} passed")
+        for failure in self.failed:
+            print("FAILED", failure)
+        print("failed" if self.failed else "ok")
+
+
+def check_bounds(tally, name, plan, weight, pair, about):
+    tally.check(f"{name}: enclosure", encloses(plan, weight, *pair), about)
+    tally.check(f"{name}: gap", keeps_gap(plan, *pair), about)
+
+
+def check_question(tally, plan, listed, question):
+    about, opening = (plan, question), plan.head.opening
+    weight, whole = question_weight(listed, question), S ** (2 * len(plan.chances))
+    p, f = [Fraction(chance, S) for chance in plan.chances], claim_chance(plan)
+    check_bounds(tally, "questions", plan, weight, bounds(plan, question), about)
+    tally.check("unrounded month rule is W", month_rule(plan, question, unrounded) * whole == weight * S, about)
+    if question.word == "survive":
+        tally.check("Theorem 2.1 is W", first_claim_survival(p, f, opening) * whole == weight, about)
+    if question.word == "both":
+        tally.check("Theorem 3.2 is W", first_claim_both(p, f, opening, question.number) * whole == weight, about)
+
+
+def check_count_row(tally, plan, listed):
+    whole = S ** (2 * len(plan.chances))
+    rows = [count_row(plan, divide) for divide in (down, up, unrounded)]
+    for k, (lower, upper, value) in enumerate(zip(*rows)):
+        weight = count_weight(listed, k)
+        check_bounds(tally, "count row", plan, weight, (lower, upper), (plan, k))
+        tally.check("unrounded count row is W", value * whole == weight * S, (plan, k))
+
+
+def check_plan(tally, plan):
+    listed, head = outcomes(plan), plan.head
+    tally.check("all histories weigh S^(2n)", sum(one.weight for one in listed) == S ** (2 * head.months), plan)
+    tally.check("an over claim of the least size ruins", plan.tail == 0 or largest_level(head) - (head.sizes + 1) <= 0, plan)
+    for question in questions(head):
+        check_question(tally, plan, listed, question)
+    check_count_row(tally, plan, listed)
+
+
+def check_paper(tally):
+    """What document 01 gives in figures."""
+    for head, row, question, number, lower, upper in WORKED:
+        got = refusal(ask_checks(head, row, question, workspace_needed(head, question)))
+        answer = (0, 0) if got else bounds(plan_of(head, row), question)
+        tally.check("funds worked by hand", got == number and (lower is None or answer == (lower, upper)), (head, row, question))
+    tally.check("report example: bytes", write_bytes(*EXAMPLE) == EXAMPLE_BYTES, EXAMPLE_BYTES.hex())
+    tally.check("report example: text", report(EXAMPLE_BYTES) == EXAMPLE_TEXT, report(EXAMPLE_BYTES))
+    tally.check("longest plan", byte_length(LARGEST) == LONGEST, f"{LONGEST} bytes")
+
+
+def selftest():
+    """Whether a check failed."""
+    tally, rng = Tally(), random.Random(2)
+    check_paper(tally)
+    for _ in range(300):
+        head, row = some_plan(rng, rng.randrange(5), rng.randrange(6), rng.randrange(1, 5))
+        tally.check("accepted", refusal(ask_checks(head, row, SURVIVE, math.inf)) == 0, (head, row))
+        tally.check("bytes there and back", read_bytes(write_bytes(head, row))[:2] == (head, row), (head, row))
+        check_plan(tally, plan_of(head, row))
+    tally.print()
+    return bool(tally.failed)
