@@ -28,7 +28,7 @@ pub record Agree (q q′ : Rule) (count top : ℕ) : Type 0 where
   pub allowed : (s : ℕ) → s ≤ top → q .allowed s ≡ q′ .allowed s
 
 -- a month of two such rules, over rows that agree
-pub month-back-agree :
+month-back-agree :
     (round : Rounding) (F : List ℕ) (q q′ : Rule) (count top : ℕ) → Agree q q′ count top → (P : ℕ) (N N′ : ℕ → Row) (level : ℕ) → level ≤ top →
     ((i : ℕ) → i < count → (s : ℕ) → s ≤ level → N i s ≡ N′ i s) →
     (k : ℕ) → k < count → (s : ℕ) → s + gain ≤ level → month-back (month round F) q P N k s ≡ month-back (month round F) q′ P N′ k s

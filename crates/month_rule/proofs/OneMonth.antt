@@ -8,7 +8,7 @@ use native.Mathlib.Nat.{le-refl, suc-mul, sub-zero}
 use native.Mathlib.Numerals.{add-one}
 use native.Mathlib.Omega.{arith}
 use borrow.Author.Count.{below-more}
-use lib.ListN.{length, getD, take, drop}
+use lib.ListN.{length, take, drop}
 use lib.Seq.{take-length, getD-drop}
 use Rattle.model.specs.Scale.{Rounding}
 use Rattle.model.specs.Sums.{total}

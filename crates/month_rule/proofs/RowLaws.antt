@@ -29,7 +29,7 @@ claim-sum-agree (f ∷ F) Y Z (suc (suc r)) h =
     )
 
 -- numbers of at most S: after a store, and in a part
-pub parts-set : (xs : List ℕ) (i v : ℕ) → Parts xs → v ≤ S → Parts (set xs i v)
+parts-set : (xs : List ℕ) (i v : ℕ) → Parts xs → v ≤ S → Parts (set xs i v)
 parts-set xs i v h l = record { each = go xs i (h .each) }
   where
     go : (xs : List ℕ) (i : ℕ) → ((k : ℕ) → getD xs k 0 ≤ S) → (k : ℕ) → getD (set xs i v) k 0 ≤ S
@@ -51,8 +51,16 @@ parts-drop xs a h = record { each = λ k. rw (getD-drop a xs k 0) (h .each (a + 
 pub parts-part : (xs : List ℕ) (a n : ℕ) → Parts xs → Parts (take n (drop a xs))
 parts-part xs a n h = record { each = λ k. le-trans (getD-take-le n (drop a xs) k) (parts-drop xs a h .each k) }
 
-pub fill-whole : (xs : List ℕ) (i v : ℕ) → i ≤ length xs → length xs ≤ i → replicate i v ++ drop i xs ≡ replicate (length xs) v
-fill-whole xs i v l m = let all : i ≡ length xs = omega arith in rw (drop-of-length-le xs m, append-nil, all)
+-- a part while it is filled
+pub record Filling (old : List ℕ) (value : ℕ) (part : List ℕ) (k : ℕ) : Type 0 where
+  pub within : k ≤ length old
+  pub same-length : length part ≡ length old
+  pub so-far : part ≡ replicate k value ++ drop k old
+
+pub filling-end : (old : List ℕ) (value : ℕ) (part : List ℕ) (k : ℕ) → length part ≤ k → Filling old value part k → part ≡ replicate (length old) value
+filling-end old value part k l h =
+    let all : k ≡ length old = omega (arith, h .within, h .same-length) in
+    h .so-far ∙ rw (all, drop-of-length-le old {i = length old} (le-refl (length old)), append-nil)
 
 -- The rows while one of them goes back, upward from its first place at `from`: the first i places are new, the rest is old.
 pub record Rewriting (old : List ℕ) (from : ℕ) (new : Row) (rows : List ℕ) (i : ℕ) : Type 0 where

@@ -29,10 +29,9 @@ pub record MonthTerms (severity : List ℕ) (chance bias : ℕ) : Type 0 where
   pub bias-fits : bias < S
 
 -- what all months take
-pub record PlanTerms (severity chances : List ℕ) (bias : ℕ) : Type 0 where
+pub record PlanTerms (severity chances : List ℕ) : Type 0 where
   pub weights-fit : total severity ≤ S
   pub chances-fit : Parts chances
-  pub bias-fits : bias < S
 
 -- So many places from `from` on hold new values, and all others what they held.
 pub record Replaced (from count : ℕ) (new : Row) (before after : List ℕ) : Type 0 where

@@ -34,6 +34,11 @@ pub record HalvesIn (shape : Shape) (xs : List ℕ) : Type 0 where
   pub size : length xs ≡ 2 * rows-size shape
   pub parts : Parts xs
 
+-- a level at place 0 of rows that a month takes back: its gain lies below, and the row has a place for each level
+pub record TopIn (shape : Shape) (top : ℕ) : Type 0 where
+  pub gained : gain ≤ top
+  pub inside : top < shape .width
+
 -- the rule of a shape
 unfoldable pub rule-by : Shape → Rule
 rule-by shape = record { after-claim = after-claim-by (shape .tallied); allowed = between (shape .low) (shape .above) }

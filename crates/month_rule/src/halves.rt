@@ -1,13 +1,12 @@
 // The workspace of a question: two halves with the same rows, the first for the lower bounds and the second for the upper. Whatever last rows the
 // halves hold, the walk back through the months is this one.
 ghost use mathlib.Core.Path.{_≡_};
-ghost use Prim.Native.Nat.{ℕ, _*_, _<_, _≤_};
+ghost use Prim.Native.Nat.{ℕ, _*_, _<_};
 ghost use lib.ListN.{length, getD, take, drop, replicate};
-ghost use Rattle.model.specs.Scale.{S, down, up};
-ghost use Rattle.model.specs.Sums.{total};
+ghost use Rattle.model.specs.Scale.{down, up};
 ghost use Rattle.model.specs.Levels.{largest-level};
 ghost use Rattle.model.specs.MonthRule.{all-placed};
-ghost use Rattle.month_rule.specs.Rows.{Parts};
+ghost use Rattle.month_rule.specs.Rows.{Parts, PlanTerms};
 ghost use Rattle.month_rule.specs.Shapes.{rows-size, values-in, HalvesIn, TakenBack};
 use crate::months::all_months_back;
 use crate::rows::Shape;
@@ -59,7 +58,7 @@ pub fn halves_back(
 )
     requires { ⌜ HalvesIn shape (now halves) ⌝ }
     requires { ⌜ largest-level opening (length (now chances)) < shape .width ⌝ }
-    requires { ⌜ (total (now severity) ≤ S) × Parts (now chances) ⌝ }
+    requires { ⌜ PlanTerms (now severity) (now chances) ⌝ }
     ensures lower { λ _.
         ⌜ TakenBack down (now (severity .entry)) shape opening (now (chances .entry)) (take (rows-size shape) (now (halves .entry))) (take (rows-size shape) (now (halves .exit))) ⌝ }
     ensures upper { λ _.

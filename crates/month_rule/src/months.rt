@@ -2,10 +2,11 @@
 ghost use mathlib.Core.Path.{_≡_};
 ghost use Prim.Native.Nat.{ℕ, _+_, _-_, _<_, _≤_};
 ghost use lib.ListN.{length};
+ghost use Rattle.model.specs.Scale.{S};
 ghost use Rattle.model.specs.Levels.{gain, largest-level};
 ghost use Rattle.model.specs.MonthRule.{kept, month, month-back};
 ghost use Rattle.month_rule.specs.Rows.{at, Parts, MonthTerms, PlanTerms, round-by};
-ghost use Rattle.month_rule.specs.Shapes.{row-with, values-in, RowsIn, rule-by, allowed-places, TakenBack};
+ghost use Rattle.month_rule.specs.Shapes.{row-with, values-in, RowsIn, TopIn, rule-by, allowed-places, TakenBack};
 use crate::rows::Shape;
 use crate::rows::all_rows_back;
 use crate::rows::forbid_rows;
@@ -21,7 +22,7 @@ pub fn month_back(
     bias: u64,
 )
     requires { ⌜ RowsIn shape (now rows) ⌝ }
-    requires { ⌜ (gain ≤ top) × (top < shape .width) ⌝ }
+    requires { ⌜ TopIn shape top ⌝ }
     requires { ⌜ MonthTerms (now severity) chance bias ⌝ }
     ensures back { λ _.
         ⌜ ((k : ℕ) → k < shape .rows → (s : ℕ) → s + gain ≤ top →
@@ -46,8 +47,8 @@ pub fn all_months_back(
     bias: u64,
 )
     requires { ⌜ RowsIn shape (now rows) ⌝ }
-    requires { ⌜ largest-level opening (length (now chances)) < shape .width ⌝ }
-    requires { ⌜ PlanTerms (now severity) (now chances) bias ⌝ }
+    requires { ⌜ (largest-level opening (length (now chances)) < shape .width) × (bias < S) ⌝ }
+    requires { ⌜ PlanTerms (now severity) (now chances) ⌝ }
     ensures values { λ _. ⌜ TakenBack (round-by bias) (now (severity .entry)) shape opening (now (chances .entry)) (now (rows .entry)) (now (rows .exit)) ⌝ }
     ensures parts { λ _. ⌜ Parts (now (rows .exit)) ⌝ }
 {

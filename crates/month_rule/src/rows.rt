@@ -6,7 +6,7 @@ ghost use lib.ListN.{length, drop, replicate};
 ghost use Rattle.model.specs.Levels.{gain};
 ghost use Rattle.model.specs.MonthRule.{month, kept, claimed-row};
 ghost use Rattle.month_rule.specs.Rows.{at, from-top, Parts, MonthTerms, Replaced, round-by, between, own-sizes, after-claim-by};
-ghost use Rattle.month_rule.specs.Shapes.{row-with, values-in, RowsIn, allowed-places};
+ghost use Rattle.month_rule.specs.Shapes.{row-with, values-in, RowsIn, TopIn, allowed-places};
 use crate::value::claim_sum;
 use crate::value::month_value;
 use model::GAIN;
@@ -114,7 +114,7 @@ pub fn all_rows_back(
     bias: u64,
 )
     requires { ⌜ RowsIn shape (now rows) ⌝ }
-    requires { ⌜ (gain ≤ top) × (top < shape .width) ⌝ }
+    requires { ⌜ TopIn shape top ⌝ }
     requires { ⌜ MonthTerms (now severity) chance bias ⌝ }
     ensures rewritten { λ _.
         ⌜ ((k : ℕ) → k < shape .rows → (s : ℕ) → s + gain ≤ top →

@@ -14,8 +14,7 @@ use Rattle.model.specs.Format.{bits, bits-of, head-of}
 use Rattle.model.specs.Refusal.{first, head-checks, read-refusal}
 use Rattle.codec.proofs.PlanBits.{longest, byte-length-fits}
 use Rattle.codec.proofs.Refusals.{read-head, read-length}
-use Rattle.report.specs.Text.{line}
-use Rattle.report.specs.Report.{refused-word, report-of}
+use Rattle.report.specs.Report.{refused-line, report-of}
 use Rattle.report.proofs.Laws.{report-refused}
 
 -- the refusal of a head, or 5
@@ -60,5 +59,5 @@ beyond bytes most enough = go (ltb most (length bytes)) refl
         let same : read-refusal (take most bytes) row-room ≡ read-refusal bytes row-room =
         part ∙ ap (λ h. or-length (first (head-checks h))) (same-head bytes most (omega arith) (omega arith)) ∙ sym all in
         report-refused _ (λ z. not-none _ (sym part ∙ z))
-        ∙ ap (λ n. line refused-word (n ∷ [])) same
+        ∙ ap refused-line same
         ∙ sym (report-refused _ (λ z. not-none _ (sym all ∙ z)))

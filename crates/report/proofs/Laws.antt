@@ -1,6 +1,6 @@
 -- Laws of the report's lines: none is longer than the room for one, and a question has at most so many. Assumes nothing.
-use Prim.Native.Nat.{ℕ, _+_, _*_, _<_, _≤_}
-use mathlib.Core.Path.{_≡_, refl, _∙_}
+use Prim.Native.Nat.{ℕ, _+_, _*_, _^_, _<_, _≤_}
+use mathlib.Core.Path.{_≡_, refl}
 use mathlib.Core.Bool.{false}
 use mathlib.Core.List.{List, [], _∷_}
 use native.Mathlib.Omega.{arith}
@@ -9,26 +9,23 @@ use lib.ListN.{length, take, length-append}
 use lib.Seq.{take-at}
 use borrow.Author.Tests.{le-ltb, ne-eqb}
 use Rattle.model.specs.declared.Head.{Head}
-use Rattle.model.specs.declared.Ask.{Ask}
 use Rattle.model.specs.declared.Question.{Question}
 use Rattle.model.specs.declared.Question.the-variants.{Survive, Both, High, Low}
-use Rattle.model.specs.Limits.{max-claims, max-level, places, row-room, workspace-room}
+use Rattle.model.specs.Limits.{max-claims, max-level, places, row-room}
 use Rattle.model.specs.Levels.{gain}
 use Rattle.model.specs.Plan.{Plan, plan-of, row-length}
 use Rattle.model.specs.Format.{head-of, row-of}
-use Rattle.model.specs.Bounds.{lower, upper}
-use Rattle.model.specs.Refusal.{outside, workspace-needed, ask-refusal, read-refusal, Accepted}
-use Rattle.model.proofs.Facts.{HeadFacts, head-facts, accepted-head}
+use Rattle.model.specs.Refusal.{outside, read-refusal, Accepted}
+use Rattle.model.proofs.Facts.{HeadFacts}
 use Rattle.model.proofs.Counts.{length-tabulate, getD-tabulate}
 use Rattle.codec.specs.Answers.{row-after}
 use Rattle.codec.proofs.Answered.{reads-row}
 use Rattle.codec.proofs.Refusals.{row-is}
-use Rattle.engine.specs.Answers.{answer, count-answer, count-rows}
-use Rattle.engine.proofs.AskLaws.{workspace-fits, ask-refusal-is}
-use Rattle.report.specs.Text.{space, line, joined, Appended}
+use Rattle.engine.specs.Answers.{count-answer, count-rows}
+use Rattle.report.specs.Text.{ascii, joined, Appended}
 use Rattle.report.proofs.TextLaws.{entry-at-most, line-at-most, joined-at-most, joined-same}
-use Rattle.report.specs.Report.{refused-word, plan-report, report-of, months-word, opening-word, sizes-word, head-line, head-room, word-of, numbered}
-use Rattle.report.specs.Report.{claims-word, bounds-line, question-line, question-at, question-lines, line-range, group-lines, most-lines}
+use Rattle.report.specs.Report.{refused-line, plan-report, report-of, head-line, head-room, word-of, numbered}
+use Rattle.report.specs.Report.{bounds-line, question-line, question-at, question-lines, LinesFit, line-range, group-lines, most-lines}
 use Rattle.report.specs.Report.{claims-line, claims-at, claims-line-of, claims-lines, line-room, CountsOf}
 
 bounds-short : (q : Question) (low high : ℕ) → length (bounds-line q low high) ≤ line-room
@@ -42,7 +39,7 @@ unfolding question-line
 question-short p q = bounds-short q _ _
 
 pub claims-short : (k low high : ℕ) → length (claims-line k low high) ≤ line-room
-claims-short k low high = omega (arith, line-at-most claims-word (k ∷ low ∷ high ∷ []))
+claims-short k low high = omega (arith, line-at-most (ascii "claims") (k ∷ low ∷ high ∷ []))
 
 -- the lines of rows that hold the count row are its lines
 pub claims-are : {p : Plan} {lowers uppers : List ℕ} (n : ℕ) → n < places → CountsOf p lowers uppers → joined (n + 1) (claims-at lowers uppers) ≡ claims-lines p n
@@ -72,6 +69,15 @@ range-most (Both k) h known = omega (arith, min-le-right (h .months) max-claims)
 range-most (High L) h known = omega (arith, known .span-fits)
 range-most (Low L) h known = omega (arith, known .opening-fits)
 
+-- so a question's lines fit where there is room for the most
+pub range-fits :
+    (q : Question) (h : Head) {at : ℕ} {text : List ℕ}
+    → HeadFacts h → length text < 2 ^ 64 → at + most-lines q * line-room ≤ length text
+    → LinesFit q (line-range q h .first) (line-range q h .count) at text
+range-fits q h known long room =
+    let most = mul-le-mul-right line-room (range-most q h known) in
+    record { within = range-within q h known; numbers-fit = omega (arith, range-starts q h); room = omega arith }
+
 -- where the head line, the lines of the count row and those of a question end
 pub head-ends : (h : Head) {b b′ : List ℕ} {at end : ℕ} → Appended b at (head-line h) b′ end → end ≤ at + head-room
 unfolding head-line
@@ -79,9 +85,9 @@ head-ends h e =
     omega (
       arith,
       simp length-append at (e .ends),
-      entry-at-most months-word (h .months ∷ []),
-      entry-at-most (space ∷ opening-word) (h .opening ∷ []),
-      line-at-most (space ∷ sizes-word) (h .sizes ∷ []),
+      entry-at-most (ascii "months") (h .months ∷ []),
+      entry-at-most (ascii " opening") (h .opening ∷ []),
+      line-at-most (ascii " sizes") (h .sizes ∷ []),
     )
 
 pub claims-end : (p : Plan) (n : ℕ) {b b′ : List ℕ} {at end : ℕ} → Appended b at (claims-lines p n) b′ end → end ≤ at + (n + 1) * line-room
@@ -100,20 +106,7 @@ group-ends p h q known e =
       mul-le-mul-right line-room (range-most q h known),
     )
 
--- What asking answers on an accepted plan
-pub asked :
-    (a : Ask) (row : List ℕ) (room : ℕ)
-    → Accepted (a .head) row
-    → outside (a .question) ≡ false
-    → workspace-room ≤ room
-    → answer a row room ≡ record { refusal = 0; lower = lower (plan-of (a .head) row) (a .question); upper = upper (plan-of (a .head) row) (a .question) }
-unfolding answer
-asked a row room accepted within enough =
-    let needed : workspace-needed a ≤ room = omega (arith, workspace-fits a (head-facts (a .head) (accepted-head (a .head) row accepted)) within) in
-    let none : ask-refusal a row room ≡ 0 = ask-refusal-is a row room ∙ (rw (accepted, within, le-ltb room _ needed)) in
-    rw none
-
--- and what counting answers
+-- What counting answers on an accepted plan
 pub counted : (h : Head) (row : List ℕ) → Accepted h row → CountsOf (plan-of h row) (count-answer h row .row .lower) (count-answer h row .row .upper)
 unfolding count-answer count-rows
 counted h row accepted =
@@ -130,7 +123,7 @@ pub report-accepted : (bytes : List ℕ) → read-refusal bytes row-room ≡ 0 �
 unfolding report-of
 report-accepted bytes none = rw none
 
-pub report-refused : (bytes : List ℕ) → (read-refusal bytes row-room ≡ 0 → ⊥) → report-of bytes ≡ line refused-word (read-refusal bytes row-room ∷ [])
+pub report-refused : (bytes : List ℕ) → (read-refusal bytes row-room ≡ 0 → ⊥) → report-of bytes ≡ refused-line (read-refusal bytes row-room)
 unfolding report-of
 report-refused bytes refused = rw (ne-eqb _ 0 refused)
 

@@ -1,3 +1,4 @@
 pub mod TextLaws
+pub mod AskingLaws
 pub mod Laws
 pub mod Beyond

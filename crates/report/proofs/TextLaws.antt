@@ -1,5 +1,5 @@
 -- Laws of appending and of decimal numbers. Assumes nothing.
-use Prim.Native.Nat.{ℕ, zero, suc, _+_, _*_, _/_, _%_, _^_, _≤_, _<_}
+use Prim.Native.Nat.{ℕ, zero, suc, _+_, _*_, _/_, _^_, _≤_, _<_}
 use mathlib.Core.Path.{_≡_, refl, sym, ap, ap₂, _∙_}
 use mathlib.Core.Bool.{Bool, true, false, cond}
 use mathlib.Core.List.{List, [], _∷_, _++_, append-assoc, append-nil}
@@ -9,9 +9,9 @@ use native.Mathlib.Nat.{pow-suc, eq-or-lt-of-le, zero-add, zero-mul, suc-mul, mu
 use mathlib.Core.Logic.{⊎-elim}
 use lib.Dec.{ltb}
 use lib.ListN.{length, getD, take, drop, set, take-append-drop, length-append, length-set}
-use lib.Seq.{length-take-le, take-all, take-suc, take-suc-set, drop-drop, drop-set-lt}
+use lib.Seq.{take-length, take-suc, take-suc-set, drop-drop, drop-set-lt}
 use borrow.Author.Tests.{lt-ltb, le-ltb}
-use Rattle.report.specs.Text.{digits, decimal, fields, joined, entry, line, Appended}
+use Rattle.report.specs.Text.{last-digit, digits, decimal, fields, joined, entry, line, Appended}
 
 -- nothing appended
 pub appended-none : (b : List ℕ) (at : ℕ) → at ≤ length b → Appended b at [] b at
@@ -39,7 +39,7 @@ pub appended-byte : (b : List ℕ) (at x : ℕ) → at < length b → Appended b
 appended-byte b at x h = record { ends = refl; inside = simp length-set (omega arith); holds = rw (add-one, take-suc-set); rest = drop-set-lt (at + 1) b at x (omega arith) }
 
 -- a digit more
-digits-step : (places n : ℕ) → digits (suc places) n ≡ cond (ltb n 10) [] (digits places (n / 10)) ++ (48 + n % 10) ∷ []
+digits-step : (places n : ℕ) → digits (suc places) n ≡ cond (ltb n 10) [] (digits places (n / 10)) ++ last-digit n ∷ []
 unfolding digits
 digits-step places n = refl
 
@@ -63,20 +63,20 @@ digits-enough : (places n : ℕ) → n < 10 ^ suc places → digits (suc (suc pl
 unfolding digits
 digits-enough zero n h = rw (lt-ltb n 10 h)
 digits-enough (suc places) n h =
-    ap (λ (l : List ℕ). cond (ltb n 10) [] l ++ (48 + n % 10) ∷ [])
+    ap (λ (l : List ℕ). cond (ltb n 10) [] l ++ last-digit n ∷ [])
     (digits-enough places (n / 10) (omega (arith, pow-suc 10 (suc places))))
 
-pub decimal-small : (n : ℕ) → n < 10 → decimal n ≡ (48 + n % 10) ∷ []
+pub decimal-small : (n : ℕ) → n < 10 → decimal n ≡ last-digit n ∷ []
 unfolding decimal
 decimal-small n h = digits-step 19 n ∙ (rw (lt-ltb n 10 h))
 
 -- the last digit stands after the digits of the tenth
-pub decimal-tens : (n : ℕ) → n < 2 ^ 64 → 10 ≤ n → decimal n ≡ decimal (n / 10) ++ (48 + n % 10) ∷ []
+pub decimal-tens : (n : ℕ) → n < 2 ^ 64 → 10 ≤ n → decimal n ≡ decimal (n / 10) ++ last-digit n ∷ []
 unfolding decimal
 decimal-tens n fits h =
     digits-step 19 n
     ∙ (rw (le-ltb n 10 h))
-    ∙ ap (λ (l : List ℕ). l ++ (48 + n % 10) ∷ []) (sym (digits-enough 18 (n / 10) (omega arith)))
+    ∙ ap (λ (l : List ℕ). l ++ last-digit n ∷ []) (sym (digits-enough 18 (n / 10) (omega arith)))
 
 pub decimal-small-length : (n : ℕ) → n < 10 → length (decimal n) ≡ 1
 decimal-small-length n h = ap length (decimal-small n h)
@@ -84,18 +84,7 @@ decimal-small-length n h = ap length (decimal-small n h)
 pub decimal-tens-length : (n : ℕ) → n < 2 ^ 64 → 10 ≤ n → length (decimal n) ≡ length (decimal (n / 10)) + 1
 decimal-tens-length n fits h = ap length (decimal-tens n fits h) ∙ length-append (decimal (n / 10)) _
 
--- A word byte by byte: room for the next byte, one byte more, and the whole word
-module _ (w : List ℕ) (i : ℕ) {b b′ : List ℕ} {at end : ℕ} (p : Appended b at (take i w) b′ end) where
-  pub word-room : i < length w → at + length w ≤ length b → length b′ ≡ length b → end < length b′
-  word-room h room same = omega (arith, p .ends, length-take-le i w (omega arith))
-
-  pub word-more : {b″ : List ℕ} {end′ : ℕ} → i < length w → Appended b′ end (getD w i 0 ∷ []) b″ end′ → Appended b at (take (i + 1) w) b″ end′
-  word-more h q = rw (add-one, take-suc w i 0) (appended-more p q)
-
-  pub word-done : length w ≤ i → Appended b at w b′ end
-  word-done h = rw take-all at p
-
--- Texts one after another: room for the next, and one more
+-- the first texts and the next are no longer than all
 joined-length : (f : ℕ → List ℕ) (n : ℕ) {i : ℕ} → i < n → length (joined i f) + length (f i) ≤ length (joined n f)
 unfolding joined
 joined-length f zero h = omega arith
@@ -105,16 +94,49 @@ joined-length f (suc n) {i} h =
     (λ (l : i < n). simp length-append (omega (arith, joined-length f n l)))
     (eq-or-lt-of-le (omega arith))
 
-module _ (f : ℕ → List ℕ) (i : ℕ) {b b′ : List ℕ} {at end : ℕ} (p : Appended b at (joined i f) b′ end) where
-  pub joined-room : (n : ℕ) → i < n → at + length (joined n f) ≤ length b → length b′ ≡ length b → end + length (f i) ≤ length b′
-  joined-room n h room same = omega (arith, p .ends, joined-length f n h)
+-- and all are at most so many times the longest
+pub joined-at-most : (f : ℕ → List ℕ) (k : ℕ) → ((i : ℕ) → length (f i) ≤ k) → (n : ℕ) → length (joined n f) ≤ n * k
+unfolding joined
+joined-at-most f k h zero = omega (arith, zero-mul k)
+joined-at-most f k h (suc n) = simp length-append (omega (arith, joined-at-most f k h n, h n, suc-mul n k))
 
-  pub joined-more : {b″ : List ℕ} {end′ : ℕ} → Appended b′ end (f i) b″ end′ → Appended b at (joined (i + 1) f) b″ end′
+-- What a loop keeps that appends the texts of 0 to n − 1, before turn i: the buffer's length, and the first i texts after what it held.
+pub record Appending (f : ℕ → List ℕ) (n : ℕ) (b : List ℕ) (at : ℕ) (b′ : List ℕ) (end i : ℕ) : Type 0 where
+  pub long : length b′ ≡ length b
+  pub turns : i ≤ n
+  pub text : Appended b at (joined i f) b′ end
+
+pub appending-start : {f : ℕ → List ℕ} {n : ℕ} {b : List ℕ} {at : ℕ} → at ≤ length b → Appending f n b at b at 0
+unfolding joined
+appending-start h = record { long = refl; turns = omega arith; text = appended-none _ _ h }
+
+module _ {f : ℕ → List ℕ} {n : ℕ} {b b′ : List ℕ} {at end i : ℕ} (p : Appending f n b at b′ end i) where
+  -- room for the text of a turn, where there is room for all, or for as many of the longest
+  pub appending-room : i < n → at + length (joined n f) ≤ length b → end + length (f i) ≤ length b′
+  appending-room h room = omega (arith, p .text .ends, p .long, joined-length f n h)
+
+  pub appending-room-each : (k : ℕ) → ((j : ℕ) → length (f j) ≤ k) → i < n → at + n * k ≤ length b → end + k ≤ length b′
+  appending-room-each k h l room =
+      omega (arith, p .text .ends, p .long, joined-at-most f k h i, suc-mul i k, mul-le-mul-right k l)
+
+  pub appending-turn : {b″ : List ℕ} {end′ : ℕ} → i < n → length b″ ≡ length b′ → Appended b′ end (f i) b″ end′ → Appending f n b at b″ end′ (i + 1)
   unfolding joined
-  joined-more q = rw add-one (appended-more p q)
+  appending-turn l same q = record { long = same ∙ p .long; turns = omega arith; text = rw add-one (appended-more (p .text) q) }
 
-  pub joined-done : (n : ℕ) → n ≤ i → i ≤ n → Appended b at (joined n f) b′ end
-  joined-done n h l = let e : i ≡ n = omega arith in rw e at p
+  pub appending-done : n ≤ i → Appended b at (joined n f) b′ end
+  appending-done h = let e : i ≡ n = omega (arith, p .turns) in rw e at (p .text)
+
+-- a word is the texts of its bytes
+abbrev pub byte-of : List ℕ → ℕ → List ℕ
+byte-of word i = getD word i 0 ∷ []
+
+bytes-first : (word : List ℕ) (i : ℕ) → i ≤ length word → joined i (byte-of word) ≡ take i word
+unfolding joined
+bytes-first word zero h = refl
+bytes-first word (suc i) h = ap (λ (l : List ℕ). l ++ byte-of word i) (bytes-first word i (omega arith)) ∙ sym (take-suc word i 0 h)
+
+pub bytes-are : (word : List ℕ) → joined (length word) (byte-of word) ≡ word
+bytes-are word = bytes-first word (length word) (omega arith) ∙ take-length word
 
 -- an entry is as long as its word and its fields
 pub entry-length : (word numbers : List ℕ) → length (entry word numbers) ≡ length word + length (joined (length numbers) (fields numbers))
@@ -126,12 +148,7 @@ pub line-length : (word numbers : List ℕ) → length (line word numbers) ≡ l
 unfolding line
 line-length word numbers = length-append (entry word numbers) _
 
--- How long a text can get
-pub joined-at-most : (f : ℕ → List ℕ) (k : ℕ) → ((i : ℕ) → length (f i) ≤ k) → (n : ℕ) → length (joined n f) ≤ n * k
-unfolding joined
-joined-at-most f k h zero = omega (arith, zero-mul k)
-joined-at-most f k h (suc n) = simp length-append (omega (arith, joined-at-most f k h n, h n, suc-mul n k))
-
+-- How long they can get
 pub entry-at-most : (word numbers : List ℕ) → length (entry word numbers) ≤ length word + length numbers * 21
 entry-at-most word numbers =
     omega (
@@ -154,12 +171,6 @@ line-fits word numbers at room h = omega (arith, line-at-most word numbers)
 pub entry-ends :
     (word numbers : List ℕ) {b b′ : List ℕ} {at end : ℕ} → Appended b at (entry word numbers) b′ end → end ≤ at + (length word + length numbers * 21)
 entry-ends word numbers p = omega (arith, p .ends, entry-at-most word numbers)
-
--- room for one text more, where none is longer than k
-pub joined-next :
-    (f : ℕ → List ℕ) (k i n : ℕ) {b b′ : List ℕ} {at end : ℕ}
-    → ((j : ℕ) → length (f j) ≤ k) → Appended b at (joined i f) b′ end → i < n → at + n * k ≤ length b → end + k ≤ length b
-joined-next f k i n h p l room = omega (arith, p .ends, joined-at-most f k h i, suc-mul i k, mul-le-mul-right k l)
 
 -- the same texts give the same whole
 pub joined-same : {f g : ℕ → List ℕ} (n : ℕ) → ((k : ℕ) → k < n → f k ≡ g k) → joined n f ≡ joined n g

@@ -1,44 +1,29 @@
--- "The reserve report", from the definitions of the model alone. Words are in ASCII.
-use Prim.Native.Nat.{ℕ, _+_, _*_, _<_, min}
+-- "The reserve report", from the definitions of the model alone.
+use Prim.Native.Nat.{ℕ, _+_, _*_, _^_, _<_, _≤_, min}
 use mathlib.Core.Path.{_≡_}
-use mathlib.Core.Bool.{cond}
+use mathlib.Core.Bool.{false, cond}
 use mathlib.Core.List.{List, [], _∷_, _++_}
 use lib.Dec.{eqb}
 use lib.ListN.{length, getD}
 use Rattle.model.specs.declared.Head.{Head}
 use Rattle.model.specs.declared.Question.{Question}
 use Rattle.model.specs.declared.Question.the-variants.{Survive, Both, High, Low}
-use Rattle.model.specs.Limits.{max-months, max-opening, max-claims, max-span, places, row-room}
+use Rattle.model.specs.Limits.{max-months, max-opening, max-claims, max-span, places, row-room, workspace-room}
 use Rattle.model.specs.Levels.{gain, largest-level}
 use Rattle.model.specs.Plan.{Plan, plan-of}
 use Rattle.model.specs.Format.{head-of, row-of}
 use Rattle.model.specs.Bounds.{lower, upper, count-lower, count-upper}
-use Rattle.model.specs.Refusal.{read-refusal}
+use Rattle.model.specs.Refusal.{outside, read-refusal}
+use Rattle.report.specs.declared.answers.Bounds.{Bounds}
 use Rattle.report.specs.declared.groups.LineRange.{LineRange}
-use Rattle.report.specs.Text.{space, entry, line, joined}
+use Rattle.report.specs.Text.{ascii, entry, line, joined}
 
--- "refused", "months", "opening", "sizes", "claims"
-abbrev pub refused-word : List ℕ
-refused-word = 114 ∷ 101 ∷ 102 ∷ 117 ∷ 115 ∷ 101 ∷ 100 ∷ []
-
-abbrev pub months-word : List ℕ
-months-word = 109 ∷ 111 ∷ 110 ∷ 116 ∷ 104 ∷ 115 ∷ []
-
-abbrev pub opening-word : List ℕ
-opening-word = 111 ∷ 112 ∷ 101 ∷ 110 ∷ 105 ∷ 110 ∷ 103 ∷ []
-
-abbrev pub sizes-word : List ℕ
-sizes-word = 115 ∷ 105 ∷ 122 ∷ 101 ∷ 115 ∷ []
-
-abbrev pub claims-word : List ℕ
-claims-word = 99 ∷ 108 ∷ 97 ∷ 105 ∷ 109 ∷ 115 ∷ []
-
--- "survive", "both", "high", "low"
+-- the word of a question's lines
 abbrev pub word-of : Question → List ℕ
-word-of Survive = 115 ∷ 117 ∷ 114 ∷ 118 ∷ 105 ∷ 118 ∷ 101 ∷ []
-word-of (Both k) = 98 ∷ 111 ∷ 116 ∷ 104 ∷ []
-word-of (High L) = 104 ∷ 105 ∷ 103 ∷ 104 ∷ []
-word-of (Low L) = 108 ∷ 111 ∷ 119 ∷ []
+word-of Survive = ascii "survive"
+word-of (Both k) = ascii "both"
+word-of (High L) = ascii "high"
+word-of (Low L) = ascii "low"
 
 -- "its number where it has one"
 abbrev pub number-of : Question → List ℕ
@@ -57,9 +42,9 @@ numbered (Low L) x = Low x
 -- "the head line gives n, u and m, each after its word"
 unfoldable pub head-line : Head → List ℕ
 head-line h =
-    entry months-word (h .months ∷ [])
-    ++ entry (space ∷ opening-word) (h .opening ∷ [])
-    ++ line (space ∷ sizes-word) (h .sizes ∷ [])
+    entry (ascii "months") (h .months ∷ [])
+    ++ entry (ascii " opening") (h .opening ∷ [])
+    ++ line (ascii " sizes") (h .sizes ∷ [])
 
 -- "Every later line is a word, its number where it has one, lower, upper"
 abbrev pub bounds-line : Question → ℕ → ℕ → List ℕ
@@ -67,6 +52,10 @@ bounds-line q low high = line (word-of q) (number-of q ++ low ∷ high ∷ [])
 
 unfoldable pub question-line : Plan → Question → List ℕ
 question-line p q = bounds-line q (lower p q) (upper p q)
+
+-- both bounds of a question, in one struct
+abbrev pub bounds-of : Plan → Question → Bounds
+bounds-of p q = record { lower = lower p q; upper = upper p q }
 
 -- so many lines of a question, its number rising from the first
 abbrev pub question-at : Plan → Question → ℕ → ℕ → List ℕ
@@ -76,7 +65,7 @@ unfoldable pub question-lines : Plan → Question → ℕ → ℕ → List ℕ
 question-lines p q first count = joined count (question-at p q first)
 
 abbrev pub claims-line : ℕ → ℕ → ℕ → List ℕ
-claims-line k low high = line claims-word (k ∷ low ∷ high ∷ [])
+claims-line k low high = line (ascii "claims") (k ∷ low ∷ high ∷ [])
 
 -- the line of a place of a count row, and of a plan's
 abbrev pub claims-at : List ℕ → List ℕ → ℕ → List ℕ
@@ -127,6 +116,12 @@ head-room = 84
 abbrev pub line-room : ℕ
 line-room = 71
 
+-- What lines of a question need: numbers within the limits that fit 64 bits, and room in the text.
+pub record LinesFit (q : Question) (first count at : ℕ) (text : List ℕ) : Type 0 where
+  pub within : (i : ℕ) → i < count → outside (numbered q (first + i)) ≡ false
+  pub numbers-fit : first + count < 2 ^ 64
+  pub room : at + count * line-room ≤ length text
+
 -- the most lines of a question, and room for the longest report
 unfoldable pub most-lines : Question → ℕ
 most-lines Survive = 1
@@ -138,9 +133,18 @@ abbrev pub text-room : ℕ
 text-room =
     head-room + (most-lines Survive + (max-months + 1) + most-lines (Both 0) + most-lines (High 0) + most-lines (Low 0)) * line-room
 
+-- What a report needs of lent memory: room for the longest text, for the row of every plan and for every question.
+pub record ReportRoom (text row workspace : List ℕ) : Type 0 where
+  pub of-text : text-room ≤ length text
+  pub of-row : row-room ≡ length row
+  pub of-workspace : workspace-room ≤ length workspace
+
 -- "A refused plan prints `refused ` and the number."
+abbrev pub refused-line : ℕ → List ℕ
+refused-line number = line (ascii "refused") (number ∷ [])
+
 unfoldable pub report-of : List ℕ → List ℕ
 report-of bytes =
     cond (eqb (read-refusal bytes row-room) 0)
     (plan-report (head-of bytes) (row-of bytes))
-    (line refused-word (read-refusal bytes row-room ∷ []))
+    (refused-line (read-refusal bytes row-room))

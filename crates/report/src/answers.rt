@@ -1,13 +1,10 @@
 // The calls of the engine on an accepted plan, with enough workspace: they do not refuse.
 ghost use mathlib.Core.Path.{_≡_};
 ghost use mathlib.Core.Bool.{false};
-ghost use Prim.Native.Nat.{_≤_};
-ghost use lib.ListN.{length};
-ghost use Rattle.model.specs.Limits.{workspace-room};
 ghost use Rattle.model.specs.Plan.{plan-of};
-ghost use Rattle.model.specs.Bounds.{lower, upper};
 ghost use Rattle.model.specs.Refusal.{Accepted, outside};
-ghost use Rattle.report.specs.Report.{CountsOf};
+ghost use Rattle.report.specs.Asking.{Answerable, workspace-left};
+ghost use Rattle.report.specs.Report.{bounds-of, CountsOf};
 use engine::CountRow;
 use model::Ask;
 use model::Head;
@@ -19,10 +16,10 @@ pub struct Bounds {
 }
 
 pub fn bounds_of(head: Head, question: Question, row: &[u32], workspace: &mut [u32]) -> Bounds
-    requires { ⌜ Accepted head (now row) ⌝ }
+    requires { ⌜ Answerable head (now row) (now workspace) ⌝ }
     requires { ⌜ outside question ≡ false ⌝ }
-    requires { ⌜ workspace-room ≤ length (now workspace) ⌝ }
-    ensures { λ r. ⌜ (r .lower ≡ lower (plan-of head (now (row .entry))) question) × (r .upper ≡ upper (plan-of head (now (row .entry))) question) ⌝ }
+    ensures answered { λ r. ⌜ r ≡ bounds-of (plan-of head (now (row .entry))) question ⌝ }
+    ensures cleared { λ _. ⌜ now (workspace .exit) ≡ workspace-left head question (now (workspace .entry)) ⌝ }
 {
     let answer = engine::ask(Ask { head, question }, row, workspace);
     Bounds {

@@ -1,13 +1,12 @@
 // The groups of lines of the report: those of each question, and those of the count row.
 ghost use mathlib.Core.Path.{_≡_};
-ghost use mathlib.Core.Bool.{false};
-ghost use Prim.Native.Nat.{ℕ, _+_, _*_, _^_, _<_, _≤_};
+ghost use Prim.Native.Nat.{_+_, _*_, _<_, _≤_};
 ghost use lib.ListN.{length};
-ghost use Rattle.model.specs.Limits.{workspace-room};
 ghost use Rattle.model.specs.Plan.{plan-of};
-ghost use Rattle.model.specs.Refusal.{HeadAccepted, Accepted, outside};
+ghost use Rattle.model.specs.Refusal.{HeadAccepted, Accepted};
 ghost use Rattle.report.specs.Text.{joined, Appended};
-ghost use Rattle.report.specs.Report.{question-lines, line-range, group-lines, claims-at, claims-lines, line-room, most-lines};
+ghost use Rattle.report.specs.Asking.{Answerable, Cleared};
+ghost use Rattle.report.specs.Report.{question-lines, line-range, group-lines, claims-at, claims-lines, line-room, LinesFit, most-lines};
 ghost use Rattle.report.specs.Report.{numbered as Report·numbered};
 use crate::answers;
 use crate::lines::put_claims_line;
@@ -55,10 +54,10 @@ pub fn put_group(
     row: &[u32],
     workspace: &mut [u32],
 ) -> usize
-    requires { ⌜ Accepted head (now row) ⌝ }
-    requires { ⌜ workspace-room ≤ length (now workspace) ⌝ }
+    requires { ⌜ Answerable head (now row) (now workspace) ⌝ }
     requires { ⌜ at + most-lines question * line-room ≤ length (now text) ⌝ }
-    ensures { λ r. ⌜ Appended (now (text .entry)) at (group-lines (plan-of head (now (row .entry))) head question) (now (text .exit)) r ⌝ }
+    ensures written { λ r. ⌜ Appended (now (text .entry)) at (group-lines (plan-of head (now (row .entry))) head question) (now (text .exit)) r ⌝ }
+    ensures cleared { λ _. ⌜ Cleared (now (workspace .entry)) (now (workspace .exit)) ⌝ }
 {
     let range = line_range(question, head);
     put_questions(
@@ -84,11 +83,10 @@ fn put_questions(
     row: &[u32],
     workspace: &mut [u32],
 ) -> usize
-    requires { ⌜ Accepted head (now row) ⌝ }
-    requires { ⌜ ((i : ℕ) → i < count → outside (Report·numbered question (first + i)) ≡ false) ⌝ }
-    requires { ⌜ workspace-room ≤ length (now workspace) ⌝ }
-    requires { ⌜ (first + count < 2 ^ 64) × (at + count * line-room ≤ length (now text)) ⌝ }
-    ensures { λ r. ⌜ Appended (now (text .entry)) at (question-lines (plan-of head (now (row .entry))) question first count) (now (text .exit)) r ⌝ }
+    requires { ⌜ Answerable head (now row) (now workspace) ⌝ }
+    requires { ⌜ LinesFit question first count at (now text) ⌝ }
+    ensures written { λ r. ⌜ Appended (now (text .entry)) at (question-lines (plan-of head (now (row .entry))) question first count) (now (text .exit)) r ⌝ }
+    ensures cleared { λ _. ⌜ Cleared (now (workspace .entry)) (now (workspace .exit)) ⌝ }
 {
     let mut end = at;
     let mut i = 0;

@@ -14,13 +14,14 @@ use plan::lengths::blank_row;
 use plan::lengths::row_length;
 ghost use mathlib.Core.Path.{_≡_};
 ghost use Prim.Native.Nat.{_≤_};
-ghost use mathlib.Core.List.{[], _∷_, _++_};
+ghost use mathlib.Core.List.{_++_};
 ghost use lib.ListN.{length, take, drop};
-ghost use Rattle.model.specs.Limits.{row-room, workspace-room};
+ghost use Rattle.model.specs.Limits.{workspace-room};
 ghost use Rattle.model.specs.Plan.{row-length};
-ghost use Rattle.model.specs.Refusal.{Accepted};
-ghost use Rattle.report.specs.Text.{line, Appended};
-ghost use Rattle.report.specs.Report.{text-room, refused-word, plan-report, report-of};
+ghost use Rattle.codec.specs.Answers.{row-after};
+ghost use Rattle.report.specs.Text.{Appended};
+ghost use Rattle.report.specs.Asking.{Answerable, Cleared};
+ghost use Rattle.report.specs.Report.{text-room, refused-line, plan-report, ReportRoom, report-of};
 
 // Room for every report: the longest is below 39,000 bytes.
 pub const TEXT: usize = 65536;
@@ -45,10 +46,10 @@ fn workspace() -> [u32; limits::WORKSPACE]
 }
 
 fn put_report(text: &mut [u8], bytes: &[u8], row: &mut [u32], workspace: &mut [u32]) -> usize
-    requires { ⌜ text-room ≤ length (now text) ⌝ }
-    requires { ⌜ row-room ≡ length (now row) ⌝ }
-    requires { ⌜ workspace-room ≤ length (now workspace) ⌝ }
-    ensures { λ r. ⌜ Appended (now (text .entry)) 0 (report-of (now (bytes .entry))) (now (text .exit)) r ⌝ }
+    requires { ⌜ ReportRoom (now text) (now row) (now workspace) ⌝ }
+    ensures written { λ r. ⌜ Appended (now (text .entry)) 0 (report-of (now (bytes .entry))) (now (text .exit)) r ⌝ }
+    ensures read { λ _. ⌜ now (row .exit) ≡ row-after (now (bytes .entry)) (now (row .entry)) ⌝ }
+    ensures cleared { λ _. ⌜ Cleared (now (workspace .entry)) (now (workspace .exit)) ⌝ }
 {
     let answer = codec::read(bytes, row);
     let refusal = answer.refusal;
@@ -60,27 +61,27 @@ fn put_report(text: &mut [u8], bytes: &[u8], row: &mut [u32], workspace: &mut [u
 
 fn put_refused(text: &mut [u8], refusal: u32) -> usize
     requires { ⌜ text-room ≤ length (now text) ⌝ }
-    ensures { λ r. ⌜ Appended (now (text .entry)) 0 (line refused-word (refusal ∷ [])) (now (text .exit)) r ⌝ }
+    ensures { λ r. ⌜ Appended (now (text .entry)) 0 (refused-line refusal) (now (text .exit)) r ⌝ }
 {
     put_line(text, 0, b"refused", &[refusal as u64])
 }
 
 // The report of an accepted plan, whose row is the first part of the lent one.
 fn put_accepted(text: &mut [u8], head: Head, row: &[u32], workspace: &mut [u32]) -> usize
-    requires { ⌜ Accepted head (take (row-length head) (now row)) ⌝ }
-    requires { ⌜ workspace-room ≤ length (now workspace) ⌝ }
+    requires { ⌜ Answerable head (take (row-length head) (now row)) (now workspace) ⌝ }
     requires { ⌜ text-room ≤ length (now text) ⌝ }
-    ensures { λ r. ⌜ Appended (now (text .entry)) 0 (plan-report head (take (row-length head) (now (row .entry)))) (now (text .exit)) r ⌝ }
+    ensures written { λ r. ⌜ Appended (now (text .entry)) 0 (plan-report head (take (row-length head) (now (row .entry)))) (now (text .exit)) r ⌝ }
+    ensures cleared { λ _. ⌜ Cleared (now (workspace .entry)) (now (workspace .exit)) ⌝ }
 {
     let used = row_length(head);
     put_plan(text, head, &row[..used], workspace)
 }
 
 fn put_plan(text: &mut [u8], head: Head, row: &[u32], workspace: &mut [u32]) -> usize
-    requires { ⌜ Accepted head (now row) ⌝ }
-    requires { ⌜ workspace-room ≤ length (now workspace) ⌝ }
+    requires { ⌜ Answerable head (now row) (now workspace) ⌝ }
     requires { ⌜ text-room ≤ length (now text) ⌝ }
-    ensures { λ r. ⌜ Appended (now (text .entry)) 0 (plan-report head (now (row .entry))) (now (text .exit)) r ⌝ }
+    ensures written { λ r. ⌜ Appended (now (text .entry)) 0 (plan-report head (now (row .entry))) (now (text .exit)) r ⌝ }
+    ensures cleared { λ _. ⌜ Cleared (now (workspace .entry)) (now (workspace .exit)) ⌝ }
 {
     let end = lines::put_head(text, 0, head);
     let end = put_group(text, end, head, Question::Survive, row, workspace);

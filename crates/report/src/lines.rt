@@ -3,10 +3,10 @@ ghost use mathlib.Core.Path.{_≡_};
 ghost use mathlib.Core.Bool.{false};
 ghost use Prim.Native.Nat.{_+_, _≤_};
 ghost use lib.ListN.{length};
-ghost use Rattle.model.specs.Limits.{workspace-room};
 ghost use Rattle.model.specs.Plan.{plan-of};
-ghost use Rattle.model.specs.Refusal.{Accepted, outside};
+ghost use Rattle.model.specs.Refusal.{outside};
 ghost use Rattle.report.specs.Text.{Appended};
+ghost use Rattle.report.specs.Asking.{Answerable, workspace-left};
 ghost use Rattle.report.specs.Report.{head-line, head-room, bounds-line, question-line, claims-line, line-room};
 use crate::answers;
 use crate::text::put_entry;
@@ -48,11 +48,11 @@ pub fn put_question(
     row: &[u32],
     workspace: &mut [u32],
 ) -> usize
-    requires { ⌜ Accepted head (now row) ⌝ }
+    requires { ⌜ Answerable head (now row) (now workspace) ⌝ }
     requires { ⌜ outside question ≡ false ⌝ }
-    requires { ⌜ workspace-room ≤ length (now workspace) ⌝ }
     requires { ⌜ at + line-room ≤ length (now text) ⌝ }
-    ensures { λ r. ⌜ Appended (now (text .entry)) at (question-line (plan-of head (now (row .entry))) question) (now (text .exit)) r ⌝ }
+    ensures written { λ r. ⌜ Appended (now (text .entry)) at (question-line (plan-of head (now (row .entry))) question) (now (text .exit)) r ⌝ }
+    ensures cleared { λ _. ⌜ now (workspace .exit) ≡ workspace-left head question (now (workspace .entry)) ⌝ }
 {
     let bounds = answers::bounds_of(head, question, row, workspace);
     put_bounds(text, at, question, bounds.lower as u64, bounds.upper as u64)

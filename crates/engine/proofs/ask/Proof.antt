@@ -127,7 +127,7 @@ question-bounds-requires c κs =
       ),
       (
         rw (months-count (a .ask .head) (a .row .now) (f .row-is)) (omega (arith, width-is n)),
-        (severity-fits (a .ask .head) (a .row .now) f, chances-parts (a .ask .head) (a .row .now) f),
+        record { weights-fit = severity-fits (a .ask .head) (a .row .now) f; chances-fit = chances-parts (a .ask .head) (a .row .now) f },
       ),
     )
 

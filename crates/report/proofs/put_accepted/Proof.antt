@@ -1,23 +1,26 @@
 -- `report::put_accepted` meets its contract: the row of an accepted plan has the length that its head asks. Assumes nothing.
 use mathlib.Core.Path.{sym}
-use lib.ListN.{take}
-use Rattle.model.specs.Plan.{row-length}
-use Rattle.model.proofs.Facts.{Facts, facts, accepted-head}
+use Rattle.model.proofs.Facts.{facts, accepted-head}
 use borrow.Author.Needs.{needs}
 use Rattle.report.proofs.put_accepted.Statement.{statement}
 use Rattle.report.proofs.put_accepted.Tie as tie
 
-plan : (s : tie.Start) → Facts (s .args .head) (take (row-length (s .args .head)) (s .args .row .now))
-plan s = facts _ _ (s .pre .0)
+-- the places of the two calls, each from the next
+abbrev start : tie.After-slice-known2 → tie.Start
+start c = c .before .before .before
+
+abbrev used : tie.After-put-plan-arg2 → tie.After-row-length
+used c = c .before .before
 
 row-length-requires : tie.Need-row-length-requires
-row-length-requires c κs = accepted-head _ _ (c .before .before .before .pre .0)
+row-length-requires c κs = accepted-head _ _ (start c .pre .0 .accepted)
 
 slice-aggregate-put-plan : tie.Need-slice-aggregate-put-plan
-slice-aggregate-put-plan c = rw (c .before .before .row-length .ensures) (sym (plan (c .before .before .before .before .before .before) .row-is))
+slice-aggregate-put-plan c =
+    rw (used c .row-length .ensures) (sym (facts _ _ (start (used c .before) .pre .0 .accepted) .row-is))
 
 put-plan-requires : tie.Need-put-plan-requires
-put-plan-requires c κs = rw (c .before .before .before .row-length .ensures) (search needs)
+put-plan-requires c κs = rw (used (c .before) .row-length .ensures) (search needs)
 
 same-length : tie.Need-same-length
 same-length c = search needs
@@ -26,7 +29,9 @@ same-length-2 : tie.Need-same-length-2
 same-length-2 c = search needs
 
 returns : tie.Need-returns
-returns c = rw (c .before .before .before .before .before .before .before .before .row-length .ensures) at (c .before .before .before .before .put-plan .ensures)
+returns c =
+    let put = c .before .before .before .before in
+    (rw (← used (put .before .before) .row-length .ensures) (put .put-plan .ensures .0), put .put-plan .ensures .1)
 
 pub put-accepted-spec : {M : Type 1} → statement M
 put-accepted-spec =

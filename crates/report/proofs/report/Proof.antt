@@ -26,7 +26,7 @@ put-report-requires c κs = search needs
 
 returns : tie.Need-returns
 returns c =
-    let put = c .before .before .put-report .ensures in
+    let put = c .before .before .put-report .ensures .0 in
     let whole = appended-whole put in
     (whole .0, (whole .1, (put .inside, sym (length-take-le _ _ (put .inside)))))
 

@@ -1,13 +1,12 @@
 -- `halves_back` meets its contract: each half taken back, as it came back (`HalfLaws`).
 use mathlib.Core.Path.{_≡_}
 use mathlib.Core.List.{_++_}
-use Prim.Native.Nat.{ℕ, _-_, _<_}
+use Prim.Native.Nat.{_-_}
 use native.Mathlib.Omega.{arith}
 use borrow.Rule.Slice.PartMut.{midOf}
 use lib.ListN.{length, drop, length-take}
 use borrow.Author.Needs.{needs}
 use Rattle.model.specs.Scale.{S}
-use Rattle.month_rule.specs.Rows.{PlanTerms}
 use Rattle.month_rule.specs.Shapes.{rows-size}
 use Rattle.month_rule.proofs.ValueLaws.{down-by, up-by}
 use Rattle.month_rule.proofs.HalfLaws.{lower-rows, upper-rows, second-lent, first-half, second-half}
@@ -30,15 +29,11 @@ start c = c .before .before .before .before .before .before
 abbrev lower : tie.After-all-months-back2 → tie.After-all-months-back
 lower c = c .before .before .before .before
 
--- what a call takes, with a bias
-terms : (c : tie.Start) (bias : ℕ) → bias < S → PlanTerms (c .args .severity .now) (c .args .chances .now) bias
-terms c bias l = record { weights-fit = c .pre .1 .1 .0; chances-fit = c .pre .1 .1 .1; bias-fits = l }
-
 all-months-back-requires : tie.Need-all-months-back-requires
 unfolding S
 all-months-back-requires c κs =
     let from = c .before .before .before .before .before in
-    (lower-rows (from .args .shape) (from .args .halves .now) (from .pre .0), (from .pre .1 .0, terms from _ (omega arith)))
+    (lower-rows (from .args .shape) (from .args .halves .now) (from .pre .0), ((from .pre .1 .0, omega arith), from .pre .1 .1))
 
 mul-all-months-back : tie.Need-mul-all-months-back
 mul-all-months-back c = search needs
@@ -68,7 +63,7 @@ unfolding S
 all-months-back-requires-2 c κs =
     let at-lower = c .before .before .before in
     let from = start at-lower in
-    (rw (second at-lower) (upper-rows (from .args .shape) (from .args .halves .now) (from .pre .0)), (from .pre .1 .0, terms from _ (omega arith)))
+    (rw (second at-lower) (upper-rows (from .args .shape) (from .args .halves .now) (from .pre .0)), ((from .pre .1 .0, omega arith), from .pre .1 .1))
 
 same-length : tie.Need-same-length
 same-length c = search needs

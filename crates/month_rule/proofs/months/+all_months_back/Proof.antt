@@ -1,12 +1,13 @@
 -- The proof of the cycle of calls {all_months_back}: the chances get fewer. The first month stands on top of the months after it.
 use Prim.Native.Nat.{ℕ, suc, _+_, _-_, _<_, _≤_}
-use mathlib.Core.Path.{_≡_, ap, _∙_}
+use mathlib.Core.Path.{_≡_, ap}
 use native.Mathlib.Omega.{arith}
 use borrow.Author.Needs.{needs}
 use borrow.Fn.Kinds.{In}
 use borrow.Fn.PlainCycle.{Measures, is, falls, and}
 use lib.ListN.{length, getD, take, drop, length-drop}
 use lib.Seq.{length-take-le}
+use Rattle.model.specs.Scale.{S}
 use Rattle.model.specs.Levels.{gain, largest-level}
 use Rattle.model.proofs.LevelLaws.{level-next, level-from}
 use Rattle.month_rule.specs.Rows.{round-by, MonthTerms, PlanTerms}
@@ -61,8 +62,11 @@ later t c = c .before .before .before .before .before
 rows-known : (t : ℕ) (s : Start t) → RowsIn (s .args .shape) (s .args .rows .now)
 rows-known t s = s .pre .1 .0
 
-terms-known : (t : ℕ) (s : Start t) → PlanTerms (s .args .severity .now) (s .args .chances .now) (s .args .bias)
+terms-known : (t : ℕ) (s : Start t) → PlanTerms (s .args .severity .now) (s .args .chances .now)
 terms-known t s = s .pre .1 .1 .1
+
+bias-known : (t : ℕ) (s : Start t) → s .args .bias < S
+bias-known t s = s .pre .1 .1 .0 .1
 
 -- a month's gain keeps within the rows
 record Fits (opening months width size : ℕ) : Type 0 where
@@ -112,13 +116,9 @@ all-months-back-all-months-back-requires t c κs =
     let a = from .args in
     let n = length (a .chances .now) in
     let fewer : length (take (n - 1) (drop 1 (a .chances .now))) ≡ n - 1 = length-take-le (n - 1) (drop 1 (a .chances .now)) (omega (arith, length-drop 1 (a .chances .now))) in
-    let terms : PlanTerms (a .severity .now) (take (n - 1) (drop 1 (a .chances .now))) (a .bias) =
-    record {
-      weights-fit = terms-known t from .weights-fit;
-      chances-fit = parts-part (a .chances .now) 1 (n - 1) (terms-known t from .chances-fit);
-      bias-fits = terms-known t from .bias-fits;
-    } in
-    (omega (arith, fewer, fits t else1 .some-month, from .pre .0), (rows-known t from, (rw fewer (fits t else1 .levels), terms)))
+    let terms : PlanTerms (a .severity .now) (take (n - 1) (drop 1 (a .chances .now))) =
+    record { weights-fit = terms-known t from .weights-fit; chances-fit = parts-part (a .chances .now) 1 (n - 1) (terms-known t from .chances-fit) } in
+    (omega (arith, fewer, fits t else1 .some-month, from .pre .0), (rows-known t from, ((rw fewer (fits t else1 .levels), bias-known t from), terms)))
 
 all-months-back-shared-slice-read-month-back : (t : ℕ) → all-months-back-lts.Need-shared-slice-read-month-back (claims t) (all-months-back-at t) all-months-back.Post
 all-months-back-shared-slice-read-month-back t c = omega (arith, fits t (some-months t (c .before .before .before .before)) .some-month)
@@ -134,10 +134,10 @@ all-months-back-month-back-requires t c κs =
     record {
       weights-fit = terms-known t from .weights-fit;
       chance-fits = terms-known t from .chances-fit .each 0;
-      bias-fits = terms-known t from .bias-fits;
+      bias-fits = bias-known t from;
     } in (
       rows-in-again (a .shape) (a .rows .now) (back .all-months-back .last .0) (rows-known t from) (back .all-months-back .kept .0) (back .all-months-back .ensures .1),
-      ((omega arith, fits t else1 .first), terms),
+      (record { gained = omega arith; inside = fits t else1 .first }, terms),
     )
 
 all-months-back-same-length : (t : ℕ) → all-months-back-lts.Need-same-length (claims t) (all-months-back-at t) all-months-back.Post

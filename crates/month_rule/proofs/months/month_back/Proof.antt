@@ -16,7 +16,7 @@ abbrev start : tie.After-forbid-rows → tie.Start
 start c = c .before .before .before .before
 
 forbid-rows-requires : tie.Need-forbid-rows-requires
-forbid-rows-requires c κs = let from = c .before .before .before in (from .pre .0, from .pre .1 .0 .1)
+forbid-rows-requires c κs = let from = c .before .before .before in (from .pre .0, from .pre .1 .0 .inside)
 
 all-rows-back-requires : tie.Need-all-rows-back-requires
 all-rows-back-requires c κs =
@@ -35,7 +35,7 @@ returns c =
     let clear = forbidden at-end .forbid-rows in
     let from = start (forbidden at-end) in
     let a = from .args in
-    let levels = forbidden-levels (a .shape) (a .top) (from .pre .1 .0 .1) (a .rows .now) (clear .last .0) (clear .ensures .0) in (
+    let levels = forbidden-levels (a .shape) (a .top) (from .pre .1 .0 .inside) (a .rows .now) (clear .last .0) (clear .ensures .0) in (
       λ k l s m.
           back .ensures .0 k l s m
           ∙ month-forbidden (round-by (a .bias)) (a .severity .now) (a .shape) (a .top) (a .chance) (values-in (a .shape) (a .top) (a .rows .now))

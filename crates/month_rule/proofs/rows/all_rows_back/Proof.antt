@@ -114,7 +114,7 @@ loop-again c =
       within = omega (arith, turn at-call .loop-test .taken);
       levels = loop .inv .levels;
       back =
-          going-back-turn _ (a .shape .width) (a .shape .tallied) (a .top) _ (loop .inv .levels) (from .pre .1 .0 .1) (a .rows .now) (a .severity .now) (a .chance)
+          going-back-turn _ (a .shape .width) (a .shape .tallied) (a .top) _ (loop .inv .levels) (from .pre .1 .0 .inside) (a .rows .now) (a .severity .now) (a .chance)
           (a .bias) (loop .rows) (loop .j) (turn at-call .loop-test .taken) (loop .inv .back) (call .last .0) (call .kept .0) (call .ensures .1) (call .ensures .0);
     }
 
@@ -157,7 +157,7 @@ done c =
     let from = start (ended (sized c) .before) in
     let a = from .args in
     let here : loop .j ≡ a .shape .rows - 1 = omega (arith, loop .inv .within, ended (sized c) .loop-test .left) in
-    going-back-end _ (a .shape .width) (a .shape .tallied) (a .top) _ (loop .inv .levels) (from .pre .1 .0 .1) (a .rows .now) (a .severity .now) (a .chance) (a .bias)
+    going-back-end _ (a .shape .width) (a .shape .tallied) (a .top) _ (loop .inv .levels) (from .pre .1 .0 .inside) (a .rows .now) (a .severity .now) (a .chance) (a .bias)
     (loop .rows) (loop .j) here (loop .inv .back) (own .result) (own .ensures) (call .last .0) (call .kept .0) (call .ensures .1) (call .ensures .0)
 
 same-length : tie.Need-same-length Inv-loop μ-loop
@@ -173,11 +173,11 @@ returns c =
     let a = from .args in
     let whole : (k : ℕ) → k < a .shape .rows → k ≤ a .shape .rows - 1 = λ k l. omega arith in (
       (λ k l.
-          going-back-done _ (a .shape .width) (a .shape .tallied) (a .top) _ (inv .levels) (from .pre .1 .0 .1) (a .rows .now) (a .severity .now) (a .chance) (a .bias) _ _
+          going-back-done _ (a .shape .width) (a .shape .tallied) (a .top) _ (inv .levels) (from .pre .1 .0 .inside) (a .rows .now) (a .severity .now) (a .chance) (a .bias) _ _
           (omega arith) (done at-call) k (whole k l)),
       (
         (λ k l.
-            going-back-beyond _ (a .shape .width) (a .shape .tallied) (a .top) _ (inv .levels) (from .pre .1 .0 .1) (a .rows .now) (a .severity .now) (a .chance) (a .bias) _ _
+            going-back-beyond _ (a .shape .width) (a .shape .tallied) (a .top) _ (inv .levels) (from .pre .1 .0 .inside) (a .rows .now) (a .severity .now) (a .chance) (a .bias) _ _
             (omega arith) (done at-call) k (whole k l)),
         done at-call .parts,
       ),

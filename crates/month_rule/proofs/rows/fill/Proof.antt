@@ -1,50 +1,56 @@
 -- `fill` meets its contract. The invariant: the numbers passed hold the value, the others are as they were.
-use mathlib.Core.Path.{_≡_, refl, _∙_}
-use mathlib.Core.List.{_++_}
-use Prim.Native.Nat.{_≤_, _-_}
+use mathlib.Core.Path.{_≡_, refl}
+use Prim.Native.Nat.{_-_, _<_}
 use native.Mathlib.Omega.{arith}
-use borrow.Author.Needs.{needs}
 use borrow.Author.Fill.{fill-more}
-use lib.ListN.{length, drop, replicate, length-set}
-use Rattle.month_rule.proofs.RowLaws.{fill-whole}
+use lib.ListN.{length, length-set}
+use Rattle.month_rule.proofs.RowLaws.{Filling, filling-end}
 use Rattle.month_rule.proofs.rows.fill.Statement.{statement}
 use Rattle.month_rule.proofs.rows.fill.Tie as tie
 
 abbrev Inv-loop : tie.InvT-loop
-Inv-loop part₀ value k₀ part k = (k ≤ length part₀) × (length part ≡ length part₀) × (part ≡ replicate k value ++ drop k part₀)
+Inv-loop part₀ value k₀ part k = Filling part₀ value part k
 
 abbrev μ-loop : tie.MeasureT-loop
 μ-loop part₀ value k₀ part k = length part₀ - k
 
 loop-holds : tie.Need-loop-holds Inv-loop μ-loop
-loop-holds c = (search needs, refl, refl)
+loop-holds c = record { within = omega arith; same-length = refl; so-far = refl }
+
+-- a turn's place lies within the part
+inside : (c : tie.In-loop Inv-loop μ-loop) → (c .before .loop .k < length (c .before .loop .part)) × (length (c .before .loop .part) ≡ length (c .before .before .args .part .now))
+inside c = (c .loop-test .taken, c .before .loop .inv .same-length)
 
 mul-part : tie.Need-mul-part Inv-loop μ-loop
-mul-part c = omega arith
+mul-part c = omega (arith, inside c)
 
 slice-write-part : tie.Need-slice-write-part Inv-loop μ-loop
-slice-write-part c = omega arith
+slice-write-part c = omega (arith, inside c)
 
 add-k : tie.Need-add-k Inv-loop μ-loop
-add-k c = omega arith
+add-k c = omega (arith, inside c)
 
 loop-less : tie.Need-loop-less Inv-loop μ-loop
-loop-less c = omega arith
+loop-less c = omega (arith, inside c)
 
 loop-again : tie.Need-loop-again Inv-loop μ-loop
 loop-again c =
     let loop = c .before .loop in
-    let start = c .before .before .args in (
-      omega arith,
-      simp length-set (loop .inv .1),
-      rw (loop .inv .2) (fill-more (loop .k) (start .value) (start .part .now) (omega arith)),
-    )
+    let a = c .before .before .args in
+    record {
+      within = omega (arith, inside c);
+      same-length = simp length-set (loop .inv .same-length);
+      so-far = rw (loop .inv .so-far) (fill-more (loop .k) (a .value) (a .part .now) (omega (arith, inside c)));
+    }
 
 same-length : tie.Need-same-length Inv-loop μ-loop
-same-length c = c .before .loop .inv .1
+same-length c = c .before .loop .inv .same-length
 
 returns : tie.Need-returns Inv-loop μ-loop
-returns c = c .before .loop .inv .2 ∙ fill-whole (c .before .before .args .part .now) (c .before .loop .k) (c .before .before .args .value) (omega arith) (omega arith)
+returns c =
+    let loop = c .before .loop in
+    let a = c .before .before .args in
+    filling-end (a .part .now) (a .value) (loop .part) (loop .k) (c .loop-test .left) (loop .inv)
 
 pub fill-spec : {M : Type 1} → statement M
 fill-spec =

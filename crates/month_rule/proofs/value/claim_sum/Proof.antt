@@ -1,7 +1,6 @@
 -- `claim_sum` meets its contract. The invariant: the sum so far and the rest are the whole, which bounds the sum too.
 use Prim.Native.Nat.{_+_, _*_, _-_, _≤_}
 use native.Mathlib.Omega.{arith}
-use lib.ListN.{length}
 use Rattle.model.specs.Scale.{S}
 use Rattle.month_rule.proofs.ValueLaws.{Summing, summing-start, summing-turn, summing-end}
 use Rattle.month_rule.proofs.value.claim_sum.Statement.{statement}

@@ -1,26 +1,27 @@
 -- `groups::put_claims` meets its contract. The invariant: the lines of the first k places are appended. Assumes nothing.
-use Prim.Native.Nat.{_+_, _-_, _≤_}
-use mathlib.Core.Path.{_≡_}
-use native.Mathlib.Omega.{arith}
+use Prim.Native.Nat.{_+_, _-_}
 use borrow.Author.Needs.{needs}
-use lib.ListN.{length}
-use Rattle.report.specs.Text.{joined, Appended}
-use Rattle.report.proofs.TextLaws.{appended-none, joined-next, joined-more, joined-done}
+use Rattle.report.proofs.TextLaws.{Appending, appending-start, appending-room-each, appending-turn, appending-done}
 use Rattle.report.specs.Report.{claims-at, line-room}
 use Rattle.report.proofs.Laws.{claims-short}
 use Rattle.report.proofs.groups.put_claims.Statement.{statement}
 use Rattle.report.proofs.groups.put_claims.Tie as tie
 
 abbrev Inv-loop : tie.InvT-loop
-Inv-loop text₀ at months lower upper end₀ k₀ text end k =
-    (length text ≡ length text₀) × (k ≤ months + 1) × Appended text₀ at (joined k (claims-at lower upper)) text end
+Inv-loop text₀ at months lower upper end₀ k₀ text end k = Appending (claims-at lower upper) (months + 1) text₀ at text end k
 
 abbrev μ-loop : tie.MeasureT-loop
 μ-loop text₀ at months lower upper end₀ k₀ text end k = months + 1 - k
 
+-- the places of the loop and of the calls in it, each from the next
+abbrev at-loop : tie.After-wide Inv-loop μ-loop → tie.At-loop Inv-loop μ-loop
+at-loop c = c .before .before .before .before
+
+abbrev lower : tie.After-wide2 Inv-loop μ-loop → tie.After-wide Inv-loop μ-loop
+lower c = c .before .before
+
 loop-holds : tie.Need-loop-holds Inv-loop μ-loop
-unfolding joined
-loop-holds c = (search needs, search needs, appended-none _ _ (search needs))
+loop-holds c = appending-start (search needs)
 
 mul-wide : tie.Need-mul-wide Inv-loop μ-loop
 mul-wide c = search needs
@@ -42,12 +43,7 @@ wide-requires-2 c κs = search needs
 
 put-claims-line-requires : tie.Need-put-claims-line-requires Inv-loop μ-loop
 put-claims-line-requires c κs =
-    let lines = claims-at (c .before .before .before .before .before .before .before .before .before .before .args .lower .now) (c .before .before .before .before .before .before .before .before .before .before .args .upper .now) in
-    omega (
-      arith,
-      joined-next lines line-room (c .before .before .before .before .before .before .loop .k) (c .before .before .before .before .before .before .before .before .before .before .args .months + 1) (λ k. claims-short k _ _) (c .before .before .before .before .before .before .loop .inv .2)
-          (search needs) (search needs),
-    )
+    appending-room-each (at-loop (lower c) .loop .inv) line-room (λ k. claims-short k _ _) (search needs) (search needs)
 
 add-k : tie.Need-add-k Inv-loop μ-loop
 add-k c = search needs
@@ -56,20 +52,18 @@ loop-less : tie.Need-loop-less Inv-loop μ-loop
 loop-less c = search needs
 
 loop-again : tie.Need-loop-again Inv-loop μ-loop
-loop-again c = (
-  search needs,
-  search needs,
-  joined-more (claims-at (c .before .before .before .before .before .before .before .before .before .before .before .before .before .args .lower .now) (c .before .before .before .before .before .before .before .before .before .before .before .before .before .args .upper .now)) (c .before .before .before .before .before .before .before .before .before .loop .k) (c .before .before .before .before .before .before .before .before .before .loop .inv .2)
-      (rw (← c .before .before .before .before .before .wide .ensures, ← c .before .before .before .wide2 .ensures) (c .before .before .put-claims-line .ensures)),
-)
+loop-again c =
+    let line = c .before .before in
+    let put = line .put-claims-line in
+    let upper = line .before in
+    appending-turn (at-loop (lower upper) .loop .inv) (search needs) (put .kept .0)
+    (rw (← lower upper .wide .ensures, ← upper .wide2 .ensures) (put .ensures))
 
 same-length : tie.Need-same-length Inv-loop μ-loop
 same-length c = search needs
 
 returns : tie.Need-returns Inv-loop μ-loop
-returns c =
-    joined-done (claims-at (c .before .before .before .before .before .args .lower .now) (c .before .before .before .before .before .args .upper .now)) (c .before .loop .k) (c .before .loop .inv .2)
-    (c .before .before .before .before .before .args .months + 1) (search needs) (search needs)
+returns c = appending-done (c .before .loop .inv) (search needs)
 
 pub put-claims-spec : {M : Type 1} → statement M
 put-claims-spec =

@@ -1,10 +1,23 @@
 -- `groups::put_counts` meets its contract: the rows that the engine answers hold the plan's count row. Assumes nothing.
 use native.Mathlib.Omega.{arith}
 use borrow.Author.Needs.{needs}
-use Rattle.model.proofs.Facts.{facts}
+use Prim.Native.Nat.{_<_}
+use Rattle.model.specs.Limits.{places}
+use Rattle.model.proofs.Facts.{head-facts, accepted-head}
 use Rattle.report.proofs.Laws.{claims-are}
 use Rattle.report.proofs.groups.put_counts.Statement.{statement}
 use Rattle.report.proofs.groups.put_counts.Tie as tie
+
+-- the places of the two calls, each from the next
+abbrev start : tie.After-count-row-of → tie.Start
+start c = c .before .before .before
+
+abbrev counts : tie.After-upper2 → tie.After-count-row-of
+counts c = c .before .before .before .before .before
+
+-- the count row has a place for each number of claims
+months-fit : (c : tie.After-count-row-of) → start c .args .head .months < places
+months-fit c = omega (arith, head-facts _ (accepted-head _ _ (start c .pre .0)) .months-fit)
 
 count-row-of-requires : tie.Need-count-row-of-requires
 count-row-of-requires c κs = search needs
@@ -17,17 +30,18 @@ slice-aggregate-put-claims-2 c = search needs
 
 put-claims-requires : tie.Need-put-claims-requires
 put-claims-requires c κs =
-    let counts = c .before .before .before .before .before .count-row-of .ensures in
-    let plan = facts (c .before .before .before .before .before .before .before .before .args .head) (c .before .before .before .before .before .before .before .before .args .row .now) (c .before .before .before .before .before .before .before .before .pre .0) in
-    ((omega (arith, plan .head .months-fit, counts .lowers-long), omega (arith, plan .head .months-fit, counts .uppers-long)), search needs)
+    let rows = counts c .count-row-of .ensures in
+    let fit = months-fit (counts c) in
+    ((omega (arith, rows .lowers-long), omega (arith, rows .uppers-long)), search needs)
 
 same-length : tie.Need-same-length
 same-length c = search needs
 
 returns : tie.Need-returns
 returns c =
-    let plan = facts (c .before .before .before .before .before .before .before .before .before .before .before .args .head) (c .before .before .before .before .before .before .before .before .before .before .before .args .row .now) (c .before .before .before .before .before .before .before .before .before .before .before .pre .0) in
-    rw (← claims-are (c .before .before .before .before .before .before .before .before .before .before .before .args .head .months) (omega (arith, plan .head .months-fit)) (c .before .before .before .before .before .before .before .before .count-row-of .ensures)) (c .before .before .put-claims .ensures)
+    let put = c .before .before in
+    let row = counts (put .before) in
+    rw (← claims-are _ (months-fit row) (row .count-row-of .ensures)) (put .put-claims .ensures)
 
 pub put-counts-spec : {M : Type 1} → statement M
 put-counts-spec =

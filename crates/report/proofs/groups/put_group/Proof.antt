@@ -1,39 +1,28 @@
 -- `groups::put_group` meets its contract: a question's numbers are within the limits, and its lines within the room. Assumes nothing.
-use native.Mathlib.Nat.{mul-le-mul-right}
-use native.Mathlib.Omega.{arith}
 use borrow.Author.Needs.{needs}
 use Rattle.model.specs.Refusal.{HeadAccepted}
-use Rattle.model.proofs.Facts.{HeadFacts, head-facts, accepted-head}
-use Rattle.report.specs.Report.{line-room}
-use Rattle.report.proofs.Laws.{range-starts, range-within, range-most}
+use Rattle.model.proofs.Facts.{head-facts, accepted-head}
+use Rattle.report.proofs.Laws.{range-fits}
 use Rattle.report.proofs.groups.put_group.Statement.{statement}
 use Rattle.report.proofs.groups.put_group.Tie as tie
 
-head-ok : (s : tie.Start) → HeadAccepted (s .args .head)
-head-ok s = accepted-head _ _ (s .pre .0)
+-- the places of the two calls, each from the next
+abbrev start : tie.After-slice-known2 → tie.Start
+start c = c .before .before .before
 
-known : (s : tie.Start) → HeadFacts (s .args .head)
-known s = head-facts _ (head-ok s)
+abbrev range : tie.After-put-questions-arg2 → tie.After-line-range
+range c = c .before .before
+
+head-ok : (s : tie.Start) → HeadAccepted (s .args .head)
+head-ok s = accepted-head _ _ (s .pre .0 .accepted)
 
 line-range-requires : tie.Need-line-range-requires
-line-range-requires c κs = head-ok (c .before .before .before)
+line-range-requires c κs = head-ok (start c)
 
 put-questions-requires : tie.Need-put-questions-requires
 put-questions-requires c κs =
-    let start = c .before .before .before .before .before .before in
-    let q = start .args .question in
-    let h = start .args .head in
-    let fits = mul-le-mul-right line-room (range-most q h (known start)) in
-    rw (c .before .before .line-range .ensures) (
-      search needs,
-      (
-        range-within q h (known start),
-        (
-          search needs,
-          (omega (arith, range-starts q h), omega arith),
-        ),
-      ),
-    )
+    let s = start (range c .before) in
+    (s .pre .0, rw (range c .line-range .ensures) (range-fits _ _ (head-facts _ (head-ok s)) (search needs) (s .pre .1)))
 
 same-length : tie.Need-same-length
 same-length c = search needs
@@ -42,7 +31,9 @@ same-length-2 : tie.Need-same-length-2
 same-length-2 c = search needs
 
 returns : tie.Need-returns
-returns c = rw (← c .before .before .before .before .before .before .before .line-range .ensures) (c .before .before .before .before .put-questions .ensures)
+returns c =
+    let put = c .before .before .before .before in
+    (rw (← range (put .before) .line-range .ensures) (put .put-questions .ensures .0), put .put-questions .ensures .1)
 
 pub put-group-spec : {M : Type 1} → statement M
 put-group-spec =

@@ -4,6 +4,19 @@ use Rattle.report.proofs.TextLaws.{line-fits}
 use Rattle.report.proofs.lines.put_bounds.Statement.{statement}
 use Rattle.report.proofs.lines.put_bounds.Tie as tie
 
+-- the question that each line is written for
+abbrev survive : tie.After-put-line → tie.After-enum-told
+survive c = c .before .before .before .before
+
+abbrev both : tie.After-put-line2 → tie.After-known-told
+both c = c .before .before .before .before
+
+abbrev high : tie.After-put-line3 → tie.After-known-told2
+high c = c .before .before .before .before
+
+abbrev low : tie.After-put-line4 → tie.After-known-told3
+low c = c .before .before .before .before
+
 enum-told : tie.Need-enum-told
 enum-told c = search needs
 
@@ -56,25 +69,33 @@ same-length : tie.Need-same-length
 same-length c = search needs
 
 returns : tie.Need-returns
-returns c = rw (c .before .before .before .before .before .before .enum-told .given .1) (c .before .before .put-line .ensures)
+returns c =
+    let put = c .before .before in
+    rw (survive put .enum-told .given .1) (put .put-line .ensures)
 
 same-length-2 : tie.Need-same-length-2
 same-length-2 c = search needs
 
 returns-2 : tie.Need-returns-2
-returns-2 c = rw (c .before .before .before .before .before .before .before .question .given .1) (c .before .before .put-line2 .ensures)
+returns-2 c =
+    let put = c .before .before in
+    rw (both put .before .question .given .1) (put .put-line2 .ensures)
 
 same-length-3 : tie.Need-same-length-3
 same-length-3 c = search needs
 
 returns-3 : tie.Need-returns-3
-returns-3 c = rw (c .before .before .before .before .before .before .before .question2 .given .1) (c .before .before .put-line3 .ensures)
+returns-3 c =
+    let put = c .before .before in
+    rw (high put .before .question2 .given .1) (put .put-line3 .ensures)
 
 same-length-4 : tie.Need-same-length-4
 same-length-4 c = search needs
 
 returns-4 : tie.Need-returns-4
-returns-4 c = rw (c .before .before .before .before .before .before .before .question3 .given .1) (c .before .before .put-line4 .ensures)
+returns-4 c =
+    let put = c .before .before in
+    rw (low put .before .question3 .given .1) (put .put-line4 .ensures)
 
 pub put-bounds-spec : {M : Type 1} → statement M
 put-bounds-spec =

@@ -6,6 +6,13 @@ use Rattle.report.specs.Report.{head-line}
 use Rattle.report.proofs.lines.put_head.Statement.{statement}
 use Rattle.report.proofs.lines.put_head.Tie as tie
 
+-- the calls before, from where the next is made
+abbrev months : tie.After-opening → tie.After-put-entry
+months c = c .before .before .before .before .before
+
+abbrev opening : tie.After-sizes → tie.After-put-entry2
+opening c = c .before .before .before .before .before
+
 slice-aggregate-put-entry : tie.Need-slice-aggregate-put-entry
 slice-aggregate-put-entry c = search needs
 
@@ -23,7 +30,7 @@ slice-aggregate-put-entry-4 c = search needs
 
 put-entry-requires-2 : tie.Need-put-entry-requires-2
 put-entry-requires-2 c κs =
-    entry-fits _ _ _ _ (omega (arith, entry-ends _ _ (c .before .before .before .before .before .put-entry .ensures), c .before .before .before .before .before .put-entry .kept .0))
+    entry-fits _ _ _ _ (omega (arith, entry-ends _ _ (months c .put-entry .ensures), months c .put-entry .kept .0))
 
 slice-aggregate-put-line : tie.Need-slice-aggregate-put-line
 slice-aggregate-put-line c = search needs
@@ -33,9 +40,10 @@ slice-aggregate-put-line-2 c = search needs
 
 put-line-requires : tie.Need-put-line-requires
 put-line-requires c κs =
+    let second = opening c .put-entry2 in
+    let first = months (opening c .before) .put-entry in
     line-fits _ _ _ _
-    (omega
-    (arith, entry-ends _ _ (c .before .before .before .before .before .before .before .before .before .before .before .put-entry .ensures), entry-ends _ _ (c .before .before .before .before .before .put-entry2 .ensures), c .before .before .before .before .before .before .before .before .before .before .before .put-entry .kept .0, c .before .before .before .before .before .put-entry2 .kept .0))
+    (omega (arith, entry-ends _ _ (first .ensures), entry-ends _ _ (second .ensures), first .kept .0, second .kept .0))
 
 same-length : tie.Need-same-length
 same-length c = search needs
@@ -43,7 +51,10 @@ same-length c = search needs
 returns : tie.Need-returns
 unfolding head-line
 returns c =
-    appended-more (appended-more (c .before .before .before .before .before .before .before .before .before .before .before .before .before .before .put-entry .ensures) (c .before .before .before .before .before .before .before .before .put-entry2 .ensures)) (c .before .before .put-line .ensures)
+    let third = c .before .before in
+    let second = opening (third .before) in
+    let first = months (second .before) in
+    appended-more (appended-more (first .put-entry .ensures) (second .put-entry2 .ensures)) (third .put-line .ensures)
 
 pub put-head-spec : {M : Type 1} → statement M
 put-head-spec =

@@ -1,8 +1,13 @@
 -- `lines::put_question` meets its contract: the bounds of the line are those that the engine answers. Assumes nothing.
+use mathlib.Core.Path.{ap}
 use borrow.Author.Needs.{needs}
 use Rattle.report.specs.Report.{question-line}
 use Rattle.report.proofs.lines.put_question.Statement.{statement}
 use Rattle.report.proofs.lines.put_question.Tie as tie
+
+-- the first call, from where the second is made
+abbrev bounds : tie.After-struct-known2 → tie.After-bounds-of
+bounds c = c .before .before .before .before .before
 
 bounds-of-requires : tie.Need-bounds-of-requires
 bounds-of-requires c κs = search needs
@@ -24,7 +29,10 @@ same-length-2 c = search needs
 
 returns : tie.Need-returns
 unfolding question-line
-returns c = rw (← c .before .before .before .before .before .before .before .before .bounds-of .ensures .0, ← c .before .before .before .before .before .before .before .before .bounds-of .ensures .1) (c .before .before .put-bounds .ensures)
+returns c =
+    let put = c .before .before in
+    let asked = bounds (put .before) .bounds-of .ensures in
+    (rw (← ap (λ b. b .lower) (asked .0), ← ap (λ b. b .upper) (asked .0)) (put .put-bounds .ensures), asked .1)
 
 pub put-question-spec : {M : Type 1} → statement M
 put-question-spec =

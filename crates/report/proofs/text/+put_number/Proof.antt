@@ -2,8 +2,8 @@
 use native.Mathlib.Omega.{arith}
 use borrow.Author.Needs.{needs}
 use Rattle.report.proofs.TextLaws.{appended-more, decimal-small, decimal-tens, decimal-small-length, decimal-tens-length}
-use Prim.Native.Nat.{ℕ, _<_}
-use borrow.Fn.Kinds.{In}
+use Prim.Native.Nat.{ℕ}
+use borrow.Fn.Kinds.{In, Out}
 use borrow.Fn.PlainCycle.{Measures, is, falls, and}
 use Rattle.report.proofs.text.put_number.Reads as put-number
 use Rattle.report.proofs.text.put_number.Kinds as put-number-kinds
@@ -26,32 +26,55 @@ put-number-below t =
 abbrev claims : ℕ → put-number-lts.Claims
 claims t = (put-byte-reads.Asked, put-byte-reads.Learnt, put-number-below t, put-number.Post)
 
-put-number-cast-digit : (t : ℕ) → put-number-lts.Need-cast-digit (claims t) (put-number-at t) put-number.Post
+-- a place or a need of the function, at a measure
+abbrev At : (put-number-lts.Claims → In 1 put-number-kinds.ps → Out 1 put-number-kinds.ps put-number-kinds.r → Type 0) → ℕ → Type 0
+At place t = place (claims t) (put-number-at t) put-number.Post
+
+-- the places of the calls, each from the next: of the one digit, of the tenth, and of the digit after it
+abbrev small : (t : ℕ) → At put-number-lts.After-put-byte-arg t → At put-number-lts.Start t
+small t c = c .before .before .before
+
+abbrev large : (t : ℕ) → At put-number-lts.After-put-number-arg t → At put-number-lts.Start t
+large t c = c .before .before .before
+
+abbrev tenth : (t : ℕ) → At put-number-lts.After-put-byte-arg2 t → At put-number-lts.After-put-number t
+tenth t c = c .before .before .before
+
+put-number-cast-digit : (t : ℕ) → At put-number-lts.Need-cast-digit t
 put-number-cast-digit t c = search needs
 
-put-number-add-digit : (t : ℕ) → put-number-lts.Need-add-digit (claims t) (put-number-at t) put-number.Post
+put-number-add-digit : (t : ℕ) → At put-number-lts.Need-add-digit t
 put-number-add-digit t c = search needs
 
-put-number-put-byte-requires : (t : ℕ) → put-number-lts.Need-put-byte-requires (claims t) (put-number-at t) put-number.Post
-put-number-put-byte-requires t c κs = omega (arith, decimal-small-length (c .before .before .before .args .x) (search needs))
+put-number-put-byte-requires : (t : ℕ) → At put-number-lts.Need-put-byte-requires t
+put-number-put-byte-requires t c κs = omega (arith, decimal-small-length (small t c .args .x) (search needs))
 
-put-number-same-length : (t : ℕ) → put-number-lts.Need-same-length (claims t) (put-number-at t) put-number.Post
+put-number-same-length : (t : ℕ) → At put-number-lts.Need-same-length t
 put-number-same-length t c = search needs
 
-put-number-returns : (t : ℕ) → put-number-lts.Need-returns (claims t) (put-number-at t) put-number.Post
-put-number-returns t c = rw (decimal-small (c .before .before .before .before .before .before .args .x) (search needs)) (c .before .before .put-byte .ensures)
+put-number-returns : (t : ℕ) → At put-number-lts.Need-returns t
+put-number-returns t c =
+    let put = c .before .before in
+    rw (decimal-small (small t (put .before) .args .x) (search needs)) (put .put-byte .ensures)
 
-put-number-put-number-requires : (t : ℕ) → put-number-lts.Need-put-number-requires (claims t) (put-number-at t) put-number.Post
-put-number-put-number-requires t c κs = (omega arith, omega (arith, decimal-tens-length (c .before .before .before .args .x) (search needs) (search needs)))
+put-number-put-number-requires : (t : ℕ) → At put-number-lts.Need-put-number-requires t
+put-number-put-number-requires t c κs =
+    (omega arith, omega (arith, decimal-tens-length (large t c .args .x) (search needs) (search needs)))
 
-put-number-put-byte-requires-2 : (t : ℕ) → put-number-lts.Need-put-byte-requires-2 (claims t) (put-number-at t) put-number.Post
-put-number-put-byte-requires-2 t c κs = omega (arith, c .before .before .before .put-number .ensures .ends, decimal-tens-length (c .before .before .before .before .before .before .before .args .x) (search needs) (search needs))
+put-number-put-byte-requires-2 : (t : ℕ) → At put-number-lts.Need-put-byte-requires-2 t
+put-number-put-byte-requires-2 t c κs =
+    let tens = tenth t c in
+    omega (arith, tens .put-number .ensures .ends, decimal-tens-length (large t (tens .before) .args .x) (search needs) (search needs))
 
-put-number-same-length-2 : (t : ℕ) → put-number-lts.Need-same-length-2 (claims t) (put-number-at t) put-number.Post
+put-number-same-length-2 : (t : ℕ) → At put-number-lts.Need-same-length-2 t
 put-number-same-length-2 t c = search needs
 
-put-number-returns-2 : (t : ℕ) → put-number-lts.Need-returns-2 (claims t) (put-number-at t) put-number.Post
-put-number-returns-2 t c = rw (decimal-tens (c .before .before .before .before .before .before .before .before .before .before .args .x) (search needs) (search needs)) (appended-more (c .before .before .before .before .before .before .put-number .ensures) (c .before .before .put-byte2 .ensures))
+put-number-returns-2 : (t : ℕ) → At put-number-lts.Need-returns-2 t
+put-number-returns-2 t c =
+    let put = c .before .before in
+    let tens = tenth t (put .before) in
+    rw (decimal-tens (large t (tens .before) .args .x) (search needs) (search needs))
+    (appended-more (tens .put-number .ensures) (put .put-byte2 .ensures))
 
 pub +put-number-spec : {M : Type 1} → statement M
 +put-number-spec = close μ-put-number λ t. put-number-lts.spec (claims t)

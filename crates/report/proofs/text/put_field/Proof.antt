@@ -4,6 +4,10 @@ use Rattle.report.proofs.TextLaws.{appended-more}
 use Rattle.report.proofs.text.put_field.Statement.{statement}
 use Rattle.report.proofs.text.put_field.Tie as tie
 
+-- the first call, from where the second is made
+abbrev space : tie.After-put-number-arg → tie.After-put-byte
+space c = c .before .before .before
+
 put-byte-requires : tie.Need-put-byte-requires
 put-byte-requires c κs = search needs
 
@@ -14,7 +18,9 @@ same-length : tie.Need-same-length
 same-length c = search needs
 
 returns : tie.Need-returns
-returns c = appended-more (c .before .before .before .before .before .before .put-byte .ensures) (c .before .before .put-number .ensures)
+returns c =
+    let put = c .before .before in
+    appended-more (space (put .before) .put-byte .ensures) (put .put-number .ensures)
 
 pub put-field-spec : {M : Type 1} → statement M
 put-field-spec = tie.close (tie.spec put-byte-requires put-number-requires same-length returns)
