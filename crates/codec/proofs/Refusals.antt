@@ -134,22 +134,17 @@ module _ (bytes : List ℕ) (room : ℕ) where
         read-padding one = after-head ∙ rw (eq-eqb _ _ length-is, one)
 
         module _ (fill-zero : any (eqb 1) (fill-of bytes) ≡ false) where
-          after-fill :
+          -- after the fill, the numbers and the room
+          pub read-rest :
               read-refusal bytes room
               ≡ cond (eqb (plan-refusal h row) 0) (cond (ltb room (row-length h)) 11 0) (plan-refusal h row)
           unfolding first
-          after-fill =
+          read-rest =
               after-head
               ∙ rw (eq-eqb _ _ length-is, fill-zero, numbers-refusal head-ok)
               (first-append (number-checks h row) _ (number-numbered h row))
 
-          pub read-numbers : (plan-refusal h row ≡ 0 → ⊥) → read-refusal bytes room ≡ plan-refusal h row
-          read-numbers refused = after-fill ∙ rw (ne-eqb _ 0 refused)
-
-          -- after an accepted plan, the room's
-          pub read-room : Accepted h row → read-refusal bytes room ≡ cond (ltb room (row-length h)) 11 0
-          read-room ok = after-fill ∙ rw (eq-eqb _ 0 ok)
-
   pub accepts : Readable bytes room → read-refusal bytes room ≡ 0
   accepts k =
-      read-room (k .whole-head) (k .head-ok) (k .length-is) (k .fill-zero) (k .accepted) ∙ rw (le-ltb _ _ (k .row-fits))
+      read-rest (k .whole-head) (k .head-ok) (k .length-is) (k .fill-zero)
+      ∙ rw (eq-eqb _ 0 (k .accepted), le-ltb _ _ (k .row-fits))

@@ -26,7 +26,8 @@ pub fn read(bytes: &[u8], row: &mut [u32]) -> ReadAnswer
     ensures answer { λ r. ⌜ r ≡ read-answer (now (bytes .entry)) (length (now (row .entry))) ⌝ }
     ensures memory { λ r. ⌜ now (row .exit) ≡ row-after (now (bytes .entry)) (now (row .entry)) ⌝ }
 {
-    let wrong = reading::refusal(bytes, row.len());
+    let room = row.len();
+    let wrong = reading::refusal(bytes, room);
     if wrong != 0 {
         let none = Head {
             months: 0,
@@ -53,7 +54,8 @@ pub fn write(head: Head, row: &[u32], bytes: &mut [u8]) -> WriteAnswer
     ensures answer { λ r. ⌜ r ≡ write-answer head (now (row .entry)) (length (now (bytes .entry))) ⌝ }
     ensures memory { λ r. ⌜ now (bytes .exit) ≡ bytes-after head (now (row .entry)) (now (bytes .entry)) ⌝ }
 {
-    let refusal = writing::refusal(head, row, bytes.len());
+    let room = bytes.len();
+    let refusal = writing::refusal(head, row, room);
     if refusal != 0 {
         return WriteAnswer { refusal, length: 0 };
     }

@@ -4,11 +4,11 @@ use crate::format;
 use model::Head;
 use model::limits;
 ghost use mathlib.Core.Path.{_≡_};
-ghost use Prim.Native.Nat.{_+_, _*_, _≤_};
+ghost use Prim.Native.Nat.{_≤_};
 ghost use lib.ListN.{length, drop};
-ghost use Rattle.model.specs.Limits.{row-room};
 ghost use Rattle.model.specs.Format.{head-bits, bits-of, fields, head-of};
 ghost use Rattle.model.specs.Refusal.{plan-refusal, read-refusal};
+ghost use Rattle.codec.specs.Rows.{RowWithin};
 
 // The head that bytes begin with.
 pub fn head_of(bytes: &[u8]) -> Head
@@ -27,7 +27,7 @@ pub fn head_of(bytes: &[u8]) -> Head
 
 // The numbers that follow the head, as many as the row has.
 pub fn decode(bytes: &[u8], row: &mut [u32])
-    requires { ⌜ (length (now row) ≤ row-room) × (head-bits + 31 * length (now row) ≤ 8 * length (now bytes)) ⌝ }
+    requires { ⌜ RowWithin (now bytes) (length (now row)) ⌝ }
     ensures { λ r. ⌜ now (row .exit) ≡ fields 31 (length (now (row .entry))) (drop head-bits (bits-of (now (bytes .entry)))) ⌝ }
 {
     let mut i = 0;
@@ -39,7 +39,7 @@ pub fn decode(bytes: &[u8], row: &mut [u32])
 
 // The refusal of a head and the numbers that follow it, which are read into a row of its own.
 fn numbers_refusal(bytes: &[u8], head: Head, count: usize) -> u32
-    requires { ⌜ (count ≤ row-room) × (head-bits + 31 * count ≤ 8 * length (now bytes)) ⌝ }
+    requires { ⌜ RowWithin (now bytes) count ⌝ }
     ensures { λ r. ⌜ r ≡ plan-refusal head (fields 31 count (drop head-bits (bits-of (now (bytes .entry))))) ⌝ }
 {
     let mut row = [0u32; limits::ROW];

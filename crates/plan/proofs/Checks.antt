@@ -1,7 +1,7 @@
 -- The refusal of a plan, test by test: what the function's tests say, put together as the table does.
 use Prim.Native.Nat.{ℕ, _+_}
 use mathlib.Core.Path.{_≡_, sym, ap, _∙_}
-use mathlib.Core.Bool.{true, false, not, _&&_, cond}
+use mathlib.Core.Bool.{Bool, true, false, not, _&&_, cond}
 use mathlib.Core.List.{List, _∷_}
 use native.Mathlib.Omega.{arith}
 use lib.Dec.{ltb, eqb}
@@ -16,6 +16,11 @@ use Rattle.model.specs.Levels.{largest-level}
 use Rattle.model.specs.Refusal.{first, head-checks, length-check, number-checks, tail-survivable, plan-checks, plan-refusal, HeadAccepted}
 use Rattle.model.proofs.Facts.{first-append, head-numbered, horizon-is, sizes-is}
 use Rattle.plan.proofs.Rows.{total-last}
+
+-- the tail's test, of a head and a row
+abbrev pub survivable : Head → List ℕ → Bool
+survivable h row =
+    ltb 0 (getD row (h .months + h .sizes) 0) && ltb (h .sizes + 1) (largest-level (h .opening) (h .months))
 
 module _ (h : Head) (row : List ℕ) where
   -- the weights and the tail are the row after the chances
@@ -56,10 +61,7 @@ module _ (h : Head) (row : List ℕ) where
           → (sum : ℕ)
           → sum ≡ total (drop (h .months) row)
           → plan-refusal h row
-          ≡ cond
-          (not (eqb sum S))
-          8
-          (cond (ltb 0 (getD row (h .months + h .sizes) 0) && ltb (h .sizes + 1) (largest-level (h .opening) (h .months))) 9 0)
+          ≡ cond (not (eqb sum S)) 8 (cond (survivable h row) 9 0)
       unfolding first number-checks tail-survivable plan-of
       by-weights within sum sum-is =
           by-numbers ∙ rw (within, horizon-is h row row-is, sizes-is h row row-is, weights-are row-is, sum-is)

@@ -2,7 +2,7 @@
 // as two bytes with its length, most significant first, and its bytes.
 use libc::STDIN_FILENO;
 use libc::STDOUT_FILENO;
-use numbers::index;
+use numbers::big_endian;
 
 fn main() {
     let mut plans = io::large_buffer();
@@ -15,7 +15,7 @@ fn print_reports(plans: &[u8]) {
     let mut at = 0;
     while 2 <= plans.len() - at {
         let start = at + 2;
-        let length = (index(plans[at]) << 8) | index(plans[at + 1]);
+        let length = big_endian(plans, at, 2);
         if plans.len() - start < length {
             return;
         }

@@ -1,12 +1,14 @@
 // Survival of the plans on standard input, in ten-thousandths of both bounds: the figures of source document 000's tables 2 and 3, which
 // docs/src/tables.py has. A plan comes as two bytes with its length, most significant first, and its bytes.
+ghost use mathlib.Core.Path.{_≡_};
+ghost use Rattle.tables.specs.Rounded.{ten-thousandths};
 use libc::STDIN_FILENO;
 use libc::STDOUT_FILENO;
 use model::Ask;
 use model::Head;
 use model::Question;
 use model::limits;
-use numbers::index;
+use numbers::big_endian;
 use plan::lengths::blank_row;
 use plan::lengths::row_length;
 
@@ -27,7 +29,7 @@ fn next_plan() -> bool {
     if io::read_full(STDIN_FILENO, &mut size) < 2 {
         return false;
     }
-    let length = (index(size[0]) << 8) | index(size[1]);
+    let length = big_endian(&size, 0, 2);
     let mut bytes = io::buffer();
     if bytes.len() < length {
         return false;
@@ -59,6 +61,8 @@ fn print_survival(head: Head, row: &[u32]) {
 }
 
 // Parts of the scale in ten-thousandths, to the nearest.
-fn rounded(x: u32) -> u64 {
+fn rounded(x: u32) -> u64
+    ensures { λ r. ⌜ r ≡ ten-thousandths x ⌝ }
+{
     (x as u64 * 10000 + model::SCALE as u64 / 2) / model::SCALE as u64
 }

@@ -1,8 +1,7 @@
 // One call a record, and its line: the refusal's number, what was answered, and the lent memory after it.
 ghost use mathlib.Core.Path.{_≡_};
-ghost use Prim.Native.Nat.{_+_};
-ghost use lib.ListN.{length};
-ghost use Rattle.model.specs.Limits.{workspace-room};
+ghost use lib.ListN.{length, replicate};
+ghost use Rattle.vectors.specs.Rooms.{workspace-capacity};
 use crate::format;
 use crate::record::Record;
 use crate::text;
@@ -39,9 +38,10 @@ fn ask(record: Record, question: Question, row: &[u32]) {
     }
 }
 
-// The `ensures` gives the length, which lending a part of the array needs.
+// The second `ensures` gives the length, which lending a part of the array needs.
 fn workspace(fill: u32) -> [u32; ROOM]
-    ensures { λ r. ⌜ workspace-room + 6 ≡ length r ⌝ }
+    ensures filled { λ r. ⌜ r ≡ replicate workspace-capacity fill ⌝ }
+    ensures sized { λ r. ⌜ workspace-capacity ≡ length r ⌝ }
 {
     [fill; ROOM]
 }

@@ -5,8 +5,10 @@ mod format;
 mod record;
 mod text;
 
+ghost use mathlib.Core.Path.{_≡_};
 ghost use Prim.Native.Nat.{_≤_};
 ghost use lib.ListN.{length};
+ghost use Rattle.vectors.specs.Rooms.{used-after};
 use record::Record;
 
 fn main() {
@@ -32,7 +34,8 @@ fn play(row: &mut [u32]) {
 // One record, over the row that the last `row` record set; answers the length of the row for the next.
 fn step(next: Record, row: &mut [u32], used: usize) -> usize
     requires { ⌜ used ≤ length (now row) ⌝ }
-    ensures { λ r. ⌜ r ≤ length (now (row .exit)) ⌝ }
+    ensures used { λ r. ⌜ r ≡ used-after next (length (now (row .entry))) used ⌝ }
+    ensures within { λ r. ⌜ r ≤ length (now (row .exit)) ⌝ }
 {
     let kind = next.kind;
     if kind == 0 {

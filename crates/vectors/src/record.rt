@@ -1,8 +1,11 @@
 // The records of the input: eight words, then a row or a plan's bytes where the kind asks for them.
 ghost use mathlib.Core.Path.{_≡_};
 ghost use Prim.Native.Nat.{_+_, _*_, _≤_};
-ghost use lib.ListN.{length};
+ghost use lib.ListN.{length, replicate};
+ghost use Rattle.vectors.specs.Rooms.{row-capacity, byte-capacity, row-used};
+ghost use Rattle.vectors.specs.Records.{word-at, number-at, record-of, ended, row-in};
 use model::Head;
+use numbers::big_endian;
 
 // The most numbers of a row and the most bytes of a plan that a record may bring.
 pub const ROW: usize = 400;
@@ -31,12 +34,16 @@ pub fn next() -> Record {
     if got == 64 { record } else { ended(record) }
 }
 
-fn ended(mut record: Record) -> Record {
-    record.kind = END;
-    record
+fn ended(mut last: Record) -> Record
+    ensures { λ r. ⌜ r ≡ ended last ⌝ }
+{
+    last.kind = END;
+    last
 }
 
-fn decode(words: &[u8; 64]) -> Record {
+fn decode(words: &[u8; 64]) -> Record
+    ensures { λ r. ⌜ r ≡ record-of (now (words .entry)) ⌝ }
+{
     Record {
         kind: words[7],
         head: Head {
@@ -54,36 +61,37 @@ fn decode(words: &[u8; 64]) -> Record {
 
 fn word(bytes: &[u8], at: usize) -> usize
     requires { ⌜ at + 8 ≤ length (now bytes) ⌝ }
+    ensures { λ r. ⌜ r ≡ word-at (now (bytes .entry)) at ⌝ }
 {
-    ((number(bytes, at) as usize) << 32) | (number(bytes, at + 4) as usize)
+    big_endian(bytes, at, 8)
 }
 
-// The number of four bytes, most significant first.
-pub fn number(bytes: &[u8], at: usize) -> u32
+fn number(bytes: &[u8], at: usize) -> u32
     requires { ⌜ at + 4 ≤ length (now bytes) ⌝ }
+    ensures { λ r. ⌜ r ≡ number-at (now (bytes .entry)) at ⌝ }
 {
-    (numbers::word(bytes[at]) << 24)
-        | (numbers::word(bytes[at + 1]) << 16)
-        | (numbers::word(bytes[at + 2]) << 8)
-        | numbers::word(bytes[at + 3])
+    big_endian(bytes, at, 4) as u32
 }
 
-// Room for a row and for a plan's bytes. The `ensures` gives the length, which lending a part of the array needs.
+// Room for a row and for a plan's bytes. The second `ensures` gives the length, which lending a part of the array needs.
 pub fn row(fill: u32) -> [u32; ROW]
-    ensures { λ r. ⌜ 400 ≡ length r ⌝ }
+    ensures filled { λ r. ⌜ r ≡ replicate row-capacity fill ⌝ }
+    ensures sized { λ r. ⌜ row-capacity ≡ length r ⌝ }
 {
     [fill; ROW]
 }
 
 pub fn bytes(fill: u8) -> [u8; BYTES]
-    ensures { λ r. ⌜ 2560 ≡ length r ⌝ }
+    ensures filled { λ r. ⌜ r ≡ replicate byte-capacity fill ⌝ }
+    ensures sized { λ r. ⌜ byte-capacity ≡ length r ⌝ }
 {
     [fill; BYTES]
 }
 
 // Reads a row of `count` numbers, and answers its length, or 0 where there is no room for it.
 pub fn read_row(count: usize, row: &mut [u32]) -> usize
-    ensures { λ r. ⌜ r ≤ length (now (row .exit)) ⌝ }
+    ensures used { λ r. ⌜ r ≡ row-used count (length (now (row .entry))) ⌝ }
+    ensures within { λ r. ⌜ r ≤ length (now (row .exit)) ⌝ }
 {
     if count > ROW {
         return 0;
@@ -100,6 +108,14 @@ fn read_numbers(bytes: &mut [u8], row: &mut [u32])
     requires { ⌜ 4 * length (now row) ≤ length (now bytes) ⌝ }
 {
     io::read_full(libc::STDIN_FILENO, bytes);
+    unpack(bytes, row);
+}
+
+// The row that bytes hold, four bytes a number.
+fn unpack(bytes: &[u8], row: &mut [u32])
+    requires { ⌜ 4 * length (now row) ≤ length (now bytes) ⌝ }
+    ensures { λ r. ⌜ now (row .exit) ≡ row-in (length (now (row .entry))) (now (bytes .entry)) ⌝ }
+{
     let mut i = 0;
     while i < row.len() {
         row[i] = number(bytes, 4 * i);

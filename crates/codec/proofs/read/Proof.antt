@@ -16,14 +16,46 @@ use Rattle.codec.proofs.Answered.{read-as, reads, reads-row, read-refus
 use Rattle.codec.proofs.read.Statement.{statement}
 use Rattle.codec.proofs.read.Tie as tie
 
+-- the places after the calls and the test, each from the next
+abbrev start : tie.After-refusal → tie.Start
+start c = c .before .before .before
+
+abbrev checked : tie.Else1 → tie.After-refusal
+checked c = c .before
+
+abbrev passed : tie.After-head-of → tie.Else1
+passed c = c .before
+
+abbrev head-read : tie.After-row-length → tie.After-head-of
+head-read c = c .before
+
+abbrev counted : tie.After-decode-arg → tie.After-row-length
+counted c = c .before
+
+abbrev lent : tie.After-decode → tie.After-decode-arg
+lent c = c .before
+
+abbrev stored : tie.After-slice-known2 → tie.After-decode
+stored c = c .before .before
+
+abbrev bytes-at : tie.After-refusal → List ℕ
+bytes-at c = start c .args .bytes .now
+
+abbrev row-at : tie.After-refusal → List ℕ
+row-at c = start c .args .row .now
+
+-- where the refusal was answered, from the row's length on
+abbrev refusal-at : tie.After-row-length → tie.After-refusal
+refusal-at c = checked (passed (head-read c))
+
 refusal-requires : tie.Need-refusal-requires
 refusal-requires c κs = search needs
 
--- the table's number
-abbrev number-at : tie.After-refusal → ℕ
-number-at c = read-refusal (c .before .before .before .args .bytes .now) (length (c .before .before .before .args .row .now))
+-- The lent row is stored to on this path alone: nothing is refused here.
+none : (c : tie.Else1) → read-refusal (bytes-at (checked c)) (length (row-at (checked c))) ≡ 0
+none c = sym (checked c .refusal .ensures) ∙ c .if1 .left
 
-refused : (c : tie.Then1) → number-at (c .before) ≡ 0 → ⊥
+refused : (c : tie.Then1) → read-refusal (bytes-at (c .before)) (length (row-at (c .before))) ≡ 0 → ⊥
 refused c e = c .if1 .taken (c .before .refusal .ensures ∙ e)
 
 returns : tie.Need-returns
@@ -31,70 +63,58 @@ unfolding no-head
 returns c =
     (ap (λ n. read-as n no-head) (c .before .refusal .ensures) ∙ sym (read-refused _ _ (refused c)), sym (row-kept _ _ (refused c)))
 
-none : (c : tie.Else1) → number-at (c .before) ≡ 0
-none c = sym (c .before .refusal .ensures) ∙ c .if1 .left
-
-known :
-    (c : tie.Else1)
-    → Readable (c .before .before .before .before .args .bytes .now) (length (c .before .before .before .before .args .row .now))
+known : (c : tie.Else1) → Readable (bytes-at (checked c)) (length (row-at (checked c)))
 known c = readable _ _ (none c)
 
 head-of-requires : tie.Need-head-of-requires
 head-of-requires c κs = known c .whole-head
 
 head-ok : (c : tie.After-head-of) → HeadAccepted (c .head-of .result)
-head-ok c = rw (c .head-of .ensures) (known (c .before) .head-ok)
+head-ok c = rw (c .head-of .ensures) (known (passed c) .head-ok)
 
 row-length-requires : tie.Need-row-length-requires
 row-length-requires c κs = head-ok c
 
-count-is :
-    (c : tie.After-row-length)
-    → c .row-length .result ≡ row-length (head-of (c .before .before .before .before .before .before .args .bytes .now))
-count-is c = c .row-length .ensures ∙ ap row-length (c .before .head-of .ensures)
+count-is : (c : tie.After-row-length) → c .row-length .result ≡ row-length (head-of (bytes-at (refusal-at c)))
+count-is c = c .row-length .ensures ∙ ap row-length (head-read c .head-of .ensures)
 
 slice-relend-prefix-decode : tie.Need-slice-relend-prefix-decode
-slice-relend-prefix-decode c = omega (arith, count-is c, known (c .before .before) .row-fits)
+slice-relend-prefix-decode c = omega (arith, count-is c, known (passed (head-read c)) .row-fits)
 
 slice-aggregate-decode : tie.Need-slice-aggregate-decode
-slice-aggregate-decode c = sym (length-take-le _ _ (slice-relend-prefix-decode (c .before)))
+slice-aggregate-decode c = sym (length-take-le _ _ (slice-relend-prefix-decode (counted c)))
+
+-- what is stored is the plan's row
+decoded : (c : tie.After-decode) → c .decode .last .1 .0 ≡ row-of (bytes-at (refusal-at (counted (lent c))))
+unfolding row-of
+decoded c =
+    c .decode .ensures
+    ∙ ap
+    (λ n. fields 31 n (drop head-bits (bits-of (bytes-at (refusal-at (counted (lent c)))))))
+    (length-take-le _ _ (slice-relend-prefix-decode (counted (lent c))) ∙ count-is (counted (lent c)))
+
+returns-2 : tie.Need-returns-2
+returns-2 c =
+    let at-count = counted (lent (stored c)) in
+    let at-head = head-read at-count in (
+      ap₂ read-as (passed at-head .if1 .left) (at-head .head-of .ensures) ∙ sym (reads _ _ (none (passed at-head))),
+      ap₂ (λ l n. l ++ drop n (row-at (refusal-at at-count))) (decoded (stored c)) (count-is at-count)
+          ∙ sym (reads-row _ _ (none (passed at-head))),
+    )
 
 decode-requires : tie.Need-decode-requires
 decode-requires c κs =
     simp length-take
     (omega (
       arith,
-      count-is (c .before),
-      c .before .row-length .ensures,
-      head-facts _ (head-ok (c .before .before)),
-      row-inside _ _ (known (c .before .before .before)),
+      count-is (counted c),
+      counted c .row-length .ensures,
+      head-facts _ (head-ok (head-read (counted c))),
+      row-inside _ _ (known (passed (head-read (counted c)))),
     ))
 
 same-length : tie.Need-same-length
 same-length c = search needs
-
-abbrev bytes-at : tie.After-decode → List ℕ
-bytes-at c = c .before .before .before .before .before .before .before .before .args .bytes .now
-
-decoded : (c : tie.After-decode) → c .decode .last .1 .0 ≡ row-of (bytes-at c)
-unfolding row-of
-decoded c =
-    c .decode .ensures
-    ∙ ap
-    (λ n. fields 31 n (drop head-bits (bits-of (bytes-at c))))
-    (length-take-le _ _ (slice-relend-prefix-decode (c .before .before)) ∙ count-is (c .before .before))
-
-returns-2 : tie.Need-returns-2
-returns-2 c =
-    let nothing = none (c .before .before .before .before .before .before) in (
-      ap₂ read-as (c .before .before .before .before .before .before .if1 .left) (c .before .before .before .before .before .head-of .ensures)
-          ∙ sym (reads _ _ nothing),
-      ap₂
-          (λ l n. l ++ drop n (c .before .before .before .before .before .before .before .before .before .before .args .row .now))
-          (decoded (c .before .before))
-          (count-is (c .before .before .before .before))
-          ∙ sym (reads-row _ _ nothing),
-    )
 
 pub read-spec : {M : Type 1} → statement M
 read-spec =

@@ -1,22 +1,20 @@
 -- `plan::sum_of` meets its contract. The loop's invariant: what is added and the sum of what is left make the whole.
-use Prim.Native.Nat.{_≤_, _-_, _+_, _*_}
-use mathlib.Core.Path.{_≡_}
+use Prim.Native.Nat.{_-_}
 use borrow.Author.Needs.{needs}
 use native.Mathlib.Omega.{arith}
-use lib.ListN.{length, drop}
-use Rattle.model.specs.Sums.{total}
-use Rattle.plan.proofs.Rows.{total-next, total-end}
+use lib.ListN.{length}
+use Rattle.plan.proofs.Rows.{Summing, summing-none, summing-more, summing-done}
 use Rattle.plan.proofs.sum_of.Statement.{statement}
 use Rattle.plan.proofs.sum_of.Tie as tie
 
 abbrev Inv-loop : tie.InvT-loop
-Inv-loop row sum₀ i₀ sum i = (i ≤ length row) × (sum ≤ 4294967295 * i) × (sum + total (drop i row) ≡ total row)
+Inv-loop row sum₀ i₀ sum i = Summing row sum i
 
 abbrev μ-loop : tie.MeasureT-loop
 μ-loop row sum₀ i₀ sum i = length row - i
 
 loop-holds : tie.Need-loop-holds Inv-loop μ-loop
-loop-holds c = omega arith
+loop-holds c = summing-none _
 
 mul-sum : tie.Need-mul-sum Inv-loop μ-loop
 mul-sum c = search needs
@@ -38,14 +36,10 @@ loop-less c = search needs
 
 loop-again : tie.Need-loop-again Inv-loop μ-loop
 loop-again c =
-    omega (
-      arith,
-      c .shared-slice-known .given (c .before .before .loop .i),
-      total-next (c .before .before .before .args .row .now) (c .before .before .loop .i) (c .before .loop-test .taken),
-    )
+    summing-more _ _ _ (c .before .before .loop .inv) (c .before .loop-test .taken) (c .shared-slice-known .given (c .before .before .loop .i) .fits)
 
 returns : tie.Need-returns Inv-loop μ-loop
-returns c = omega (arith, total-end (c .before .before .args .row .now) (c .before .loop .i) (c .loop-test .left))
+returns c = summing-done _ _ _ (c .before .loop .inv) (c .loop-test .left)
 
 pub sum-of-spec : {M : Type 1} → statement M
 sum-of-spec =

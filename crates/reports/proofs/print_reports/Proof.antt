@@ -20,20 +20,8 @@ sub-loop c = search needs
 add-start : tie.Need-add-start Inv-loop μ-loop
 add-start c = search needs
 
-shared-slice-read-index : tie.Need-shared-slice-read-index Inv-loop μ-loop
-shared-slice-read-index c = search needs
-
-index-requires : tie.Need-index-requires Inv-loop μ-loop
-index-requires c κs = search needs
-
-add-index : tie.Need-add-index Inv-loop μ-loop
-add-index c = search needs
-
-shared-slice-read-index-2 : tie.Need-shared-slice-read-index-2 Inv-loop μ-loop
-shared-slice-read-index-2 c = search needs
-
-index-requires-2 : tie.Need-index-requires-2 Inv-loop μ-loop
-index-requires-2 c κs = search needs
+big-endian-requires : tie.Need-big-endian-requires Inv-loop μ-loop
+big-endian-requires c κs = search needs
 
 sub-if1 : tie.Need-sub-if1 Inv-loop μ-loop
 sub-if1 c = search needs
@@ -74,11 +62,7 @@ print-reports-spec =
     loop-holds
     sub-loop
     add-start
-    shared-slice-read-index
-    index-requires
-    add-index
-    shared-slice-read-index-2
-    index-requires-2
+    big-endian-requires
     sub-if1
     returns
     add-at

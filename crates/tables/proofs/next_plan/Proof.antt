@@ -14,17 +14,11 @@ read-full-requires c κs = search needs
 returns : tie.Need-returns
 returns c = search needs
 
-array-read-index : tie.Need-array-read-index
-array-read-index c = search needs
+slice-aggregate-big-endian : tie.Need-slice-aggregate-big-endian
+slice-aggregate-big-endian c = search needs
 
-index-requires : tie.Need-index-requires
-index-requires c κs = search needs
-
-array-read-index-2 : tie.Need-array-read-index-2
-array-read-index-2 c = search needs
-
-index-requires-2 : tie.Need-index-requires-2
-index-requires-2 c κs = search needs
+big-endian-requires : tie.Need-big-endian-requires
+big-endian-requires c κs = search needs
 
 buffer-requires : tie.Need-buffer-requires
 buffer-requires c κs = search needs
@@ -51,10 +45,8 @@ next-plan-spec =
     slice-aggregate-read-full
     read-full-requires
     returns
-    array-read-index
-    index-requires
-    array-read-index-2
-    index-requires-2
+    slice-aggregate-big-endian
+    big-endian-requires
     buffer-requires
     returns-2
     array-borrow-prefix-bytes

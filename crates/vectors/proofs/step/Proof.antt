@@ -1,7 +1,9 @@
--- `vectors::step` is safe and ends. Assumes nothing.
+-- `vectors::step` meets its contract.
 use mathlib.Core.Path.{sym}
 use lib.Seq.{length-take-le}
 use borrow.Author.Needs.{needs}
+use borrow.Author.Tests.{eq-eqb, ne-eqb}
+use Rattle.vectors.specs.Rooms.{used-after}
 use Rattle.vectors.proofs.step.Statement.{statement}
 use Rattle.vectors.proofs.step.Tie as tie
 
@@ -12,7 +14,10 @@ same-length : tie.Need-same-length
 same-length c = search needs
 
 returns : tie.Need-returns
-returns c = search needs
+unfolding used-after
+returns c =
+    let read = c .before .before in
+    (rw (eq-eqb _ 0 (read .before .before .if1 .taken)) (read .read-row .ensures .0), search needs)
 
 slice-reshare-prefix-call : tie.Need-slice-reshare-prefix-call
 slice-reshare-prefix-call c = search needs
@@ -27,7 +32,8 @@ same-length-2 : tie.Need-same-length-2
 same-length-2 c = search needs
 
 returns-2 : tie.Need-returns-2
-returns-2 c = search needs
+unfolding used-after
+returns-2 c = (rw (ne-eqb _ 0 (c .before .before .if1 .left)), search needs)
 
 pub step-spec : {M : Type 1} → statement M
 step-spec =

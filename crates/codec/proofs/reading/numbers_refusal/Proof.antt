@@ -1,40 +1,59 @@
 -- `codec::reading::numbers_refusal` meets its contract: the first numbers of its row are those that follow the head.
+use Prim.Native.Nat.{ℕ}
+use mathlib.Core.List.{List}
 use mathlib.Core.Path.{_≡_, sym, ap, _∙_}
 use native.Mathlib.Omega.{arith}
 use borrow.Author.Needs.{needs}
-use lib.ListN.{length, drop, length-append, length-take}
+use lib.ListN.{length, take, drop, replicate, length-append}
 use lib.Seq.{length-take-le, take-at}
+use Rattle.model.specs.Limits.{row-room}
 use Rattle.model.specs.Format.{head-bits, bits-of, fields}
 use Rattle.model.specs.Refusal.{plan-refusal}
 use Rattle.codec.proofs.Fields.{length-fields}
 use Rattle.codec.proofs.reading.numbers_refusal.Statement.{statement}
 use Rattle.codec.proofs.reading.numbers_refusal.Tie as tie
 
+-- the places after the borrows and the calls, each from the next
+abbrev start : tie.After-row → tie.Start
+start c = c .before .before
+
+abbrev lent : tie.After-decode → tie.After-row
+lent c = c .before
+
+abbrev stored : tie.After-row2 → tie.After-decode
+stored c = c .before
+
+abbrev shared : tie.After-plan-refusal → tie.After-row2
+shared c = c .before .before
+
+abbrev bytes-at : tie.After-row → List ℕ
+bytes-at c = start c .args .bytes .now
+
+abbrev count-at : tie.After-row → ℕ
+count-at c = start c .args .count
+
 array-borrow-prefix-row : tie.Need-array-borrow-prefix-row
 array-borrow-prefix-row c = search needs
 
+-- the part that is lent has as many numbers as are asked for
+lent-length : (c : tie.After-row) → length {A = ℕ} (take (count-at c) (replicate row-room 0)) ≡ count-at c
+lent-length c = length-take-le _ _ (start c .pre .fits)
+
 slice-aggregate-decode : tie.Need-slice-aggregate-decode
-slice-aggregate-decode c = sym (length-take-le _ _ (c .before .before .pre .0))
+slice-aggregate-decode c = sym (lent-length c)
 
 decode-requires : tie.Need-decode-requires
-decode-requires c κs = simp length-take (omega arith)
+decode-requires c κs = rw (lent-length c) (start c .pre)
 
 -- the numbers that were read
-decoded :
-    (c : tie.After-row2)
-    → c .before .decode .last .1 .0
-    ≡ fields 31 (c .before .before .before .before .args .count) (drop head-bits (bits-of (c .before .before .before .before .args .bytes .now)))
-decoded c =
-    c .before .decode .ensures
-    ∙ ap
-    (λ n. fields 31 n (drop head-bits (bits-of (c .before .before .before .before .args .bytes .now))))
-    (length-take-le _ _ (c .before .before .before .before .pre .0))
+decoded : (c : tie.After-decode) → c .decode .last .1 .0 ≡ fields 31 (count-at (lent c)) (drop head-bits (bits-of (bytes-at (lent c))))
+decoded c = c .decode .ensures ∙ ap (λ n. fields 31 n (drop head-bits (bits-of (bytes-at (lent c))))) (lent-length (lent c))
 
-decoded-length : (c : tie.After-row2) → length (c .before .decode .last .1 .0) ≡ c .before .before .before .before .args .count
+decoded-length : (c : tie.After-decode) → length (c .decode .last .1 .0) ≡ count-at (lent c)
 decoded-length c = ap length (decoded c) ∙ length-fields 31 _ _
 
 array-share-prefix-row : tie.Need-array-share-prefix-row
-array-share-prefix-row c = simp length-append (omega (arith, decoded-length c))
+array-share-prefix-row c = simp length-append (omega (arith, decoded-length (stored c)))
 
 slice-aggregate-plan-refusal : tie.Need-slice-aggregate-plan-refusal
 slice-aggregate-plan-refusal c = sym (length-take-le _ _ (array-share-prefix-row (c .before)))
@@ -44,10 +63,9 @@ plan-refusal-requires c κs = search needs
 
 returns : tie.Need-returns
 returns c =
+    let at-row = stored (shared c) in
     c .plan-refusal .ensures
-    ∙ ap
-    (plan-refusal (c .before .before .before .before .before .before .args .head))
-    (take-at _ _ _ (decoded-length (c .before .before)) ∙ decoded (c .before .before))
+    ∙ ap (plan-refusal (start (lent at-row) .args .head)) (take-at _ _ _ (decoded-length at-row) ∙ decoded at-row)
 
 pub numbers-refusal-spec : {M : Type 1} → statement M
 numbers-refusal-spec =

@@ -6,7 +6,7 @@ use mathlib.Core.List.{List}
 use native.Mathlib.Nat.{le-of-eq}
 use native.Mathlib.Omega.{arith}
 use borrow.Author.Needs.{needs}
-use borrow.Author.Tests.{ne-eqb, lt-ltb, le-ltb}
+use borrow.Author.Tests.{eq-eqb, ne-eqb, lt-ltb, le-ltb}
 use lib.Dec.{ltb, eqb}
 use lib.ListN.{length, drop, length-drop}
 use lib.Seq.{take-all}
@@ -16,9 +16,59 @@ use Rattle.model.specs.Format.{number, head-bits, bits-of, fields, bit-length, 
 use Rattle.model.specs.Refusal.{first, head-checks, HeadAccepted, plan-refusal, read-refusal}
 use Rattle.model.proofs.Facts.{head-facts}
 use Rattle.codec.proofs.PlanBits.{length-bits-of, longest, byte-length-fits}
-use Rattle.codec.proofs.Refusals.{fill-test, read-stub, read-head, read-length, read-padding, read-numbers, read-room}
+use Rattle.codec.proofs.Refusals.{fill-test, read-stub, read-head, read-length, read-padding, read-rest}
 use Rattle.codec.proofs.reading.refusal.Statement.{statement}
 use Rattle.codec.proofs.reading.refusal.Tie as tie
+
+-- the places after the calls and the tests that pass, each from the next
+abbrev start : tie.Else1 → tie.Start
+start c = c .before .before
+
+abbrev stub-passed : tie.After-head-of → tie.Else1
+stub-passed c = c .before
+
+abbrev head-read : tie.After-head-refusal → tie.After-head-of
+head-read c = c .before
+
+abbrev head-checked : tie.Else2 → tie.After-head-refusal
+head-checked c = c .before
+
+abbrev head-passed : tie.After-byte-length → tie.Else2
+head-passed c = c .before
+
+abbrev bytes-counted : tie.Else3 → tie.After-byte-length
+bytes-counted c = c .before
+
+abbrev length-passed : tie.After-bit-length → tie.Else3
+length-passed c = c .before
+
+abbrev end-found : tie.After-field → tie.After-bit-length
+end-found c = c .before
+
+abbrev fill-read : tie.Else4 → tie.After-field
+fill-read c = c .before
+
+abbrev fill-passed : tie.After-row-length → tie.Else4
+fill-passed c = c .before
+
+abbrev row-counted : tie.After-numbers-refusal → tie.After-row-length
+row-counted c = c .before
+
+abbrev numbers-checked : tie.Else5 → tie.After-numbers-refusal
+numbers-checked c = c .before
+
+-- where the head was read, from each test on
+abbrev head-2 : tie.Else2 → tie.After-head-of
+head-2 c = head-read (head-checked c)
+
+abbrev head-3 : tie.Else3 → tie.After-head-of
+head-3 c = head-2 (head-passed (bytes-counted c))
+
+abbrev head-4 : tie.Else4 → tie.After-head-of
+head-4 c = head-3 (length-passed (end-found (fill-read c)))
+
+abbrev bytes-at : tie.After-head-of → List ℕ
+bytes-at c = start (stub-passed c) .args .bytes .now
 
 returns : tie.Need-returns
 returns c = sym (read-stub _ _ (c .if1 .taken))
@@ -29,61 +79,59 @@ head-of-requires c κs = search needs
 head-refusal-requires : tie.Need-head-refusal-requires
 head-refusal-requires c κs = search needs
 
+stub-ok : (c : tie.After-head-of) → 3 ≤ length (bytes-at c)
+stub-ok c = stub-passed c .if1 .left
+
 -- the head's refusal
-head-number :
-    (c : tie.After-head-refusal)
-    → c .head-refusal .result ≡ first (head-checks (head-of (c .before .before .before .before .args .bytes .now)))
-head-number c = c .head-refusal .ensures ∙ ap (λ h. first (head-checks h)) (c .before .head-of .ensures)
+head-number : (c : tie.After-head-refusal) → c .head-refusal .result ≡ first (head-checks (head-of (bytes-at (head-read c))))
+head-number c = c .head-refusal .ensures ∙ ap (λ h. first (head-checks h)) (head-read c .head-of .ensures)
 
 returns-2 : tie.Need-returns-2
 returns-2 c =
     head-number (c .before)
-    ∙ sym (read-head _ _ (c .before .before .before .if1 .left) (λ e. c .if2 .taken (head-number (c .before) ∙ e)))
+    ∙ sym (read-head _ _ (stub-ok (head-read (c .before))) (λ e. c .if2 .taken (head-number (c .before) ∙ e)))
 
-abbrev bytes-at : tie.Else2 → List ℕ
-bytes-at c = c .before .before .before .before .before .args .bytes .now
-
-head-ok : (c : tie.Else2) → HeadAccepted (head-of (bytes-at c))
-head-ok c = sym (head-number (c .before)) ∙ c .if2 .left
+head-ok : (c : tie.Else2) → HeadAccepted (head-of (bytes-at (head-2 c)))
+head-ok c = sym (head-number (head-checked c)) ∙ c .if2 .left
 
 -- of the head as it was read
-head-ok-here : (c : tie.Else2) → HeadAccepted (c .before .before .head-of .result)
-head-ok-here c = sym (c .before .head-refusal .ensures) ∙ c .if2 .left
+head-ok-here : (c : tie.Else2) → HeadAccepted (head-2 c .head-of .result)
+head-ok-here c = sym (head-checked c .head-refusal .ensures) ∙ c .if2 .left
 
 byte-length-requires : tie.Need-byte-length-requires
 byte-length-requires c κs = head-ok-here c
 
-byte-length-is : (c : tie.After-byte-length) → c .byte-length .result ≡ byte-length (head-of (bytes-at (c .before)))
-byte-length-is c = c .byte-length .ensures ∙ ap byte-length (c .before .before .before .head-of .ensures)
+byte-length-is : (c : tie.After-byte-length) → c .byte-length .result ≡ byte-length (head-of (bytes-at (head-2 (head-passed c))))
+byte-length-is c = c .byte-length .ensures ∙ ap byte-length (head-2 (head-passed c) .head-of .ensures)
 
 returns-3 : tie.Need-returns-3
 returns-3 c =
-    sym
-    (read-length _ _
-    (c .before .before .before .before .before .if1 .left)
-    (head-ok (c .before .before))
-    (λ e. c .if3 .taken (e ∙ sym (byte-length-is (c .before)))))
+    let passed = head-passed (c .before) in
+    sym (read-length _ _ (stub-ok (head-2 passed)) (head-ok passed) (λ e. c .if3 .taken (e ∙ sym (byte-length-is (c .before)))))
 
-length-is : (c : tie.Else3) → length (bytes-at (c .before .before)) ≡ byte-length (head-of (bytes-at (c .before .before)))
-length-is c = c .if3 .left ∙ byte-length-is (c .before)
+length-is : (c : tie.Else3) → length (bytes-at (head-3 c)) ≡ byte-length (head-of (bytes-at (head-3 c)))
+length-is c = c .if3 .left ∙ byte-length-is (bytes-counted c)
+
+head-ok-3 : (c : tie.Else3) → HeadAccepted (head-3 c .head-of .result)
+head-ok-3 c = head-ok-here (head-passed (bytes-counted c))
 
 bit-length-requires : tie.Need-bit-length-requires
-bit-length-requires c κs = head-ok-here (c .before .before)
+bit-length-requires c κs = head-ok-3 c
 
 -- the row ends in the last byte
 ends :
     (c : tie.After-bit-length)
-    → (c .bit-length .result ≤ 8 * length (bytes-at (c .before .before .before)))
-    × (8 * length (bytes-at (c .before .before .before)) < c .bit-length .result + 8)
-    × (length (bytes-at (c .before .before .before)) ≤ longest)
+    → (c .bit-length .result ≤ 8 * length (bytes-at (head-3 (length-passed c))))
+    × (8 * length (bytes-at (head-3 (length-passed c))) < c .bit-length .result + 8)
+    × (length (bytes-at (head-3 (length-passed c))) ≤ longest)
 unfolding byte-length
 ends c =
     omega (
       arith,
       c .bit-length .ensures,
-      c .before .before .byte-length .ensures,
-      c .before .if3 .left,
-      byte-length-fits _ (head-ok-here (c .before .before .before)),
+      bytes-counted (length-passed c) .byte-length .ensures,
+      length-passed c .if3 .left,
+      byte-length-fits _ (head-ok-3 (length-passed c)),
     )
 
 mul-fill : tie.Need-mul-fill
@@ -95,99 +143,99 @@ sub-fill c = omega (arith, ends c)
 field-requires : tie.Need-field-requires
 field-requires c κs = omega (arith, ends c)
 
-end-is : (c : tie.After-bit-length) → c .bit-length .result ≡ bit-length (head-of (bytes-at (c .before .before .before)))
-end-is c = c .bit-length .ensures ∙ ap bit-length (c .before .before .before .before .before .head-of .ensures)
+end-is : (c : tie.After-bit-length) → c .bit-length .result ≡ bit-length (head-of (bytes-at (head-3 (length-passed c))))
+end-is c = c .bit-length .ensures ∙ ap bit-length (head-3 (length-passed c) .head-of .ensures)
+
+abbrev filled-bytes : tie.After-field → List ℕ
+filled-bytes c = bytes-at (head-3 (length-passed (end-found c)))
 
 rest-length :
-    (c : tie.After-bit-length)
-    → length (drop (c .bit-length .result) (bits-of (bytes-at (c .before .before .before))))
-    ≡ 8 * length (bytes-at (c .before .before .before)) - c .bit-length .result
+    (c : tie.After-field)
+    → length (drop (end-found c .bit-length .result) (bits-of (filled-bytes c)))
+    ≡ 8 * length (filled-bytes c) - end-found c .bit-length .result
 rest-length c = rw (length-drop, length-bits-of)
 
 -- the number that the fill's bits stand for
-fill-number : (c : tie.After-field) → c .field .result ≡ number (fill-of (bytes-at (c .before .before .before .before)))
+fill-number : (c : tie.After-field) → c .field .result ≡ number (fill-of (filled-bytes c))
 unfolding fill-of
 fill-number c =
     c .field .ensures
-    ∙ ap number (take-all _ _ (le-of-eq (rest-length (c .before))))
-    ∙ ap (λ n. number (drop n (bits-of (bytes-at (c .before .before .before .before))))) (end-is (c .before))
+    ∙ ap number (take-all _ _ (le-of-eq (rest-length c)))
+    ∙ ap (λ n. number (drop n (bits-of (filled-bytes c)))) (end-is (end-found c))
 
-padding :
-    (c : tie.After-field)
-    → any (eqb 1) (fill-of (bytes-at (c .before .before .before .before))) ≡ not (eqb (c .field .result) 0)
-padding c = fill-test (bytes-at (c .before .before .before .before)) ∙ ap (λ n. not (eqb n 0)) (sym (fill-number c))
+padding : (c : tie.After-field) → any (eqb 1) (fill-of (filled-bytes c)) ≡ not (eqb (c .field .result) 0)
+padding c = fill-test (filled-bytes c) ∙ ap (λ n. not (eqb n 0)) (sym (fill-number c))
 
 returns-4 : tie.Need-returns-4
 returns-4 c =
+    let passed = length-passed (end-found (c .before)) in
     sym
     (read-padding _ _
-    (c .before .before .before .before .before .before .before .before .if1 .left)
-    (head-ok (c .before .before .before .before .before))
-    (length-is (c .before .before .before))
+    (stub-ok (head-3 passed))
+    (head-ok (head-passed (bytes-counted passed)))
+    (length-is passed)
     (padding (c .before) ∙ rw (ne-eqb _ 0 (c .if4 .taken))))
 
-fill-zero : (c : tie.Else4) → any (eqb 1) (fill-of (bytes-at (c .before .before .before .before .before))) ≡ false
-fill-zero c = padding (c .before) ∙ ap (λ n. not (eqb n 0)) (c .if4 .left)
+fill-zero : (c : tie.Else4) → any (eqb 1) (fill-of (bytes-at (head-4 c))) ≡ false
+fill-zero c = padding (fill-read c) ∙ ap (λ n. not (eqb n 0)) (c .if4 .left)
+
+head-ok-4 : (c : tie.Else4) → HeadAccepted (head-4 c .head-of .result)
+head-ok-4 c = head-ok-3 (length-passed (end-found (fill-read c)))
 
 row-length-requires : tie.Need-row-length-requires
-row-length-requires c κs = head-ok-here (c .before .before .before .before .before)
+row-length-requires c κs = head-ok-4 c
 
 numbers-refusal-requires : tie.Need-numbers-refusal-requires
 unfolding bit-length
 numbers-refusal-requires c κs =
-    let limits = head-facts _ (head-ok-here (c .before .before .before .before .before .before)) in
-    omega (arith, c .row-length .ensures, ends (c .before .before .before), c .before .before .before .bit-length .ensures)
+    let limits = head-facts _ (head-ok-4 (fill-passed c)) in
+    let end = end-found (fill-read (fill-passed c)) in
+    omega (arith, c .row-length .ensures, ends end, end .bit-length .ensures)
 
-stub-ok : (c : tie.Else4) → 3 ≤ length (bytes-at (c .before .before .before .before .before))
-stub-ok c = c .before .before .before .before .before .before .before .before .if1 .left
+abbrev read-bytes : tie.After-numbers-refusal → List ℕ
+read-bytes c = bytes-at (head-4 (fill-passed (row-counted c)))
 
-count-is :
-    (c : tie.After-row-length)
-    → c .row-length .result ≡ row-length (head-of (bytes-at (c .before .before .before .before .before .before)))
-count-is c = c .row-length .ensures ∙ ap row-length (c .before .before .before .before .before .before .before .before .head-of .ensures)
+count-is : (c : tie.After-numbers-refusal) → row-counted c .row-length .result ≡ row-length (head-of (read-bytes c))
+count-is c = row-counted c .row-length .ensures ∙ ap row-length (head-4 (fill-passed (row-counted c)) .head-of .ensures)
 
 -- the refusal of the plan that the bytes mean
-abbrev bytes-after : tie.After-numbers-refusal → List ℕ
-bytes-after c = bytes-at (c .before .before .before .before .before .before .before)
-
 numbers-number :
     (c : tie.After-numbers-refusal)
-    → c .numbers-refusal .result ≡ plan-refusal (head-of (bytes-after c)) (row-of (bytes-after c))
+    → c .numbers-refusal .result ≡ plan-refusal (head-of (read-bytes c)) (row-of (read-bytes c))
 unfolding row-of
 numbers-number c =
     c .numbers-refusal .ensures
     ∙ ap₂
-    (λ h n. plan-refusal h (fields 31 n (drop head-bits (bits-of (bytes-after c)))))
-    (c .before .before .before .before .before .before .before .before .before .head-of .ensures)
-    (count-is (c .before))
+    (λ h n. plan-refusal h (fields 31 n (drop head-bits (bits-of (read-bytes c)))))
+    (head-4 (fill-passed (row-counted c)) .head-of .ensures)
+    (count-is c)
+
+abbrev room-at : tie.After-numbers-refusal → ℕ
+room-at c = start (stub-passed (head-4 (fill-passed (row-counted c)))) .args .room
+
+-- the numbers and the room are left to decide
+rest :
+    (c : tie.After-numbers-refusal)
+    → read-refusal (read-bytes c) (room-at c)
+    ≡ cond
+    (eqb (c .numbers-refusal .result) 0)
+    (cond (ltb (room-at c) (row-counted c .row-length .result)) 11 0)
+    (c .numbers-refusal .result)
+rest c =
+    let passed = fill-passed (row-counted c) in
+    let length-ok = length-passed (end-found (fill-read passed)) in
+    read-rest _ _ (stub-ok (head-4 passed)) (head-ok (head-passed (bytes-counted length-ok))) (length-is length-ok) (fill-zero passed)
+    ∙ ap₂ (λ n k. cond (eqb n 0) (cond (ltb (room-at c) k) 11 0) n) (sym (numbers-number c)) (sym (count-is c))
 
 returns-5 : tie.Need-returns-5
-returns-5 c =
-    numbers-number (c .before)
-    ∙ sym
-    (read-numbers _ _
-    (stub-ok (c .before .before .before))
-    (head-ok (c .before .before .before .before .before .before .before .before))
-    (length-is (c .before .before .before .before .before .before))
-    (fill-zero (c .before .before .before))
-    (λ e. c .if5 .taken (numbers-number (c .before) ∙ e)))
-
-abbrev room-at : tie.Else5 → ℕ
-room-at c = c .before .before .before .before .before .before .before .before .before .before .before .before .before .args .room
+returns-5 c = sym (rest (c .before) ∙ rw (ne-eqb _ 0 (c .if5 .taken)))
 
 -- only the room is left
 room-left :
     (c : tie.Else5)
-    → read-refusal (bytes-after (c .before)) (room-at c)
-    ≡ cond (ltb (room-at c) (c .before .before .row-length .result)) 11 0
-room-left c =
-    read-room _ _
-    (stub-ok (c .before .before .before))
-    (head-ok (c .before .before .before .before .before .before .before .before))
-    (length-is (c .before .before .before .before .before .before))
-    (fill-zero (c .before .before .before))
-    (sym (numbers-number (c .before)) ∙ c .if5 .left)
-    ∙ ap (λ n. cond (ltb (room-at c) n) 11 0) (sym (count-is (c .before .before)))
+    → read-refusal (read-bytes (numbers-checked c)) (room-at (numbers-checked c))
+    ≡ cond (ltb (room-at (numbers-checked c)) (row-counted (numbers-checked c) .row-length .result)) 11 0
+room-left c = rest (numbers-checked c) ∙ rw (eq-eqb _ 0 (c .if5 .left))
 
 returns-6 : tie.Need-returns-6
 returns-6 c = sym (room-left (c .before) ∙ rw (lt-ltb _ _ (c .if6 .taken)))

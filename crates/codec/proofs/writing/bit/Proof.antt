@@ -7,6 +7,19 @@ use Rattle.codec.proofs.PlanBits.{months-bit, opening-bit, sizes-bit, n
 use Rattle.codec.proofs.writing.bit.Statement.{statement}
 use Rattle.codec.proofs.writing.bit.Tie as tie
 
+-- the places after the tests, each from the next: a position is past a field
+abbrev start : tie.Else1 → tie.Start
+start c = c .before .before
+
+abbrev past-months : tie.Else2 → tie.Else1
+past-months c = c .before
+
+abbrev past-opening : tie.Else3 → tie.Else2
+past-opening c = c .before
+
+abbrev past-head : tie.After-shared-slice-known2 → tie.Else3
+past-head c = c .before .before
+
 sub-digit : tie.Need-sub-digit
 sub-digit c = search needs
 
@@ -42,8 +55,8 @@ digit-requires-3 c κs = search needs
 
 returns-3 : tie.Need-returns-3
 returns-3 c =
-    c .digit3 .ensures
-    ∙ sym (sizes-bit _ _ _ (c .before .before .before .if1 .left) (c .before .before .if2 .left) (c .before .if3 .taken))
+    let opening = c .before .before in
+    c .digit3 .ensures ∙ sym (sizes-bit _ _ _ (past-months opening .if1 .left) (opening .if2 .left) (c .before .if3 .taken))
 
 mul-digit : tie.Need-mul-digit
 mul-digit c = search needs
@@ -52,7 +65,11 @@ shared-slice-read-digit : tie.Need-shared-slice-read-digit
 shared-slice-read-digit c = search needs
 
 cast-digit : tie.Need-cast-digit
-cast-digit c = omega (arith, c .shared-slice-known2 .given ((c .before .before .before .before .before .before .args .at - 7 - 8 - 9) / 31))
+cast-digit c =
+    omega (
+      arith,
+      c .shared-slice-known2 .given ((start (past-months (past-opening (past-head c))) .args .at - 7 - 8 - 9) / 31),
+    )
 
 sub-digit-7 : tie.Need-sub-digit-7
 sub-digit-7 c = search needs
@@ -65,16 +82,14 @@ digit-requires-4 c κs = search needs
 
 returns-4 : tie.Need-returns-4
 returns-4 c =
-    c .digit4 .ensures
-    ∙ sym
-    (number-bit _ _ _
-    (c .before .before .before .before .before .if1 .left)
-    (c .before .before .before .before .if2 .left)
-    (c .before .before .before .if3 .left))
+    let head = past-head (c .before) in
+    let opening = past-opening head in
+    c .digit4 .ensures ∙ sym (number-bit _ _ _ (past-months opening .if1 .left) (opening .if2 .left) (head .if3 .left))
 
 returns-5 : tie.Need-returns-5
 returns-5 c =
-    sym (no-bit _ _ _ (c .before .before .before .if1 .left) (c .before .before .if2 .left) (c .before .if3 .left) (c .if4 .left))
+    let opening = past-opening (c .before) in
+    sym (no-bit _ _ _ (past-months opening .if1 .left) (opening .if2 .left) (c .before .if3 .left) (c .if4 .left))
 
 pub bit-spec : {M : Type 1} → statement M
 bit-spec =

@@ -1,17 +1,31 @@
--- `record::read_row` is safe and ends: the row fits, and four bytes for each number. Assumes nothing.
+-- `record::read_row` meets its contract: the row fits, and four bytes for each number. Assumes nothing.
 use mathlib.Core.Path.{sym}
 use native.Mathlib.Omega.{arith}
 use lib.Seq.{length-take-le}
 use lib.ListN.{length-take}
 use borrow.Author.Needs.{needs}
+use borrow.Author.Tests.{lt-ltb, le-ltb}
+use Rattle.vectors.specs.Rooms.{row-used}
 use Rattle.vectors.proofs.record.read_row.Statement.{statement}
 use Rattle.vectors.proofs.record.read_row.Tie as tie
 
+-- the places after the calls and the tests, each from the next
+abbrev tested : tie.After-bytes → tie.Else2
+tested c = c .before
+
+abbrev made : tie.After-read-numbers → tie.After-bytes
+made c = c .before .before .before
+
+abbrev stored : tie.After-slice-known2 → tie.After-read-numbers
+stored c = c .before .before .before
+
 returns : tie.Need-returns
-returns c = search needs
+unfolding row-used
+returns c = (rw (lt-ltb _ _ (c .if1 .taken)), search needs)
 
 returns-2 : tie.Need-returns-2
-returns-2 c = search needs
+unfolding row-used
+returns-2 c = (rw (le-ltb _ _ (c .before .if1 .left), lt-ltb _ _ (c .if2 .taken)), search needs)
 
 bytes-requires : tie.Need-bytes-requires
 bytes-requires c κs = search needs
@@ -38,7 +52,10 @@ same-length : tie.Need-same-length
 same-length c = search needs
 
 returns-3 : tie.Need-returns-3
-returns-3 c = search needs
+unfolding row-used
+returns-3 c =
+    let fits = tested (made (stored c)) in
+    (rw (le-ltb _ _ (fits .before .if1 .left), le-ltb _ _ (fits .if2 .left)), omega arith)
 
 pub read-row-spec : {M : Type 1} → statement M
 read-row-spec =

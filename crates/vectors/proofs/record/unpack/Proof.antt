@@ -1,23 +1,20 @@
--- `record::read_numbers` is safe and ends: there are four bytes for each number. Assumes nothing.
-use Prim.Native.Nat.{_≤_, _*_, _-_}
-use mathlib.Core.Path.{_≡_}
+-- `record::unpack` meets its contract: there are four bytes for each number.
+use Prim.Native.Nat.{_-_}
 use native.Mathlib.Omega.{arith}
 use borrow.Author.Needs.{needs}
 use lib.ListN.{length, length-set}
-use Rattle.vectors.proofs.record.read_numbers.Statement.{statement}
-use Rattle.vectors.proofs.record.read_numbers.Tie as tie
+use Rattle.vectors.proofs.Unpacking.{Unpacking, unpacking-none, unpacking-more, unpacking-done}
+use Rattle.vectors.proofs.record.unpack.Statement.{statement}
+use Rattle.vectors.proofs.record.unpack.Tie as tie
 
 abbrev Inv-loop : tie.InvT-loop
-Inv-loop bytes row₀ i₀ row i = (length row ≡ length row₀) × (4 * length row ≤ length bytes)
+Inv-loop bytes row₀ i₀ row i = Unpacking bytes row₀ row i
 
 abbrev μ-loop : tie.MeasureT-loop
 μ-loop bytes row₀ i₀ row i = length row - i
 
-read-full-requires : tie.Need-read-full-requires Inv-loop μ-loop
-read-full-requires c κs = search needs
-
 loop-holds : tie.Need-loop-holds Inv-loop μ-loop
-loop-holds c = search needs
+loop-holds c = unpacking-none _ _
 
 mul-number : tie.Need-mul-number Inv-loop μ-loop
 mul-number c = search needs
@@ -38,24 +35,20 @@ loop-less : tie.Need-loop-less Inv-loop μ-loop
 loop-less c = simp length-set (omega arith)
 
 loop-again : tie.Need-loop-again Inv-loop μ-loop
-loop-again c = simp length-set (search needs)
+loop-again c = unpacking-more _ _ _ _ (c .before .before .loop .inv) _ (c .before .loop-test .taken) (c .number .ensures)
 
 same-length : tie.Need-same-length Inv-loop μ-loop
-same-length c = search needs
-
-same-length-2 : tie.Need-same-length-2 Inv-loop μ-loop
-same-length-2 c = search needs
+same-length c = c .before .loop .inv .same
 
 returns : tie.Need-returns Inv-loop μ-loop
-returns c = search needs
+returns c = unpacking-done _ _ _ _ (c .before .loop .inv) (c .loop-test .left)
 
-pub read-numbers-spec : {M : Type 1} → statement M
-read-numbers-spec =
+pub unpack-spec : {M : Type 1} → statement M
+unpack-spec =
     tie.close
     (tie.spec
     Inv-loop
     μ-loop
-    read-full-requires
     loop-holds
     mul-number
     number-requires
@@ -65,5 +58,4 @@ read-numbers-spec =
     loop-less
     loop-again
     same-length
-    same-length-2
     returns)

@@ -1,0 +1,91 @@
+-- `record::decode` meets its contract: a word or a byte for each field.
+use borrow.Author.Needs.{needs}
+use lib.ListN.{getD}
+use Rattle.vectors.specs.Records.{record-of}
+use Rattle.vectors.proofs.record.decode.Statement.{statement}
+use Rattle.vectors.proofs.record.decode.Tie as tie
+
+-- the places after the calls, each from the next
+abbrev start : tie.After-word → tie.Start
+start c = c .before .before .before
+
+abbrev months : tie.After-word2 → tie.After-word
+months c = c .before .before
+
+abbrev opening : tie.After-word3 → tie.After-word2
+opening c = c .before .before
+
+abbrev sizes : tie.After-word4 → tie.After-word3
+sizes c = c .before .before
+
+abbrev number : tie.After-word5 → tie.After-word4
+number c = c .before .before
+
+abbrev room : tie.After-number → tie.After-word5
+room c = c .before .before
+
+abbrev fill : tie.After-word6 → tie.After-number
+fill c = c .before .before .before
+
+element-copy-out-t4 : tie.Need-element-copy-out-t4
+element-copy-out-t4 c = search needs
+
+word-requires : tie.Need-word-requires
+word-requires c κs = search needs
+
+word-requires-2 : tie.Need-word-requires-2
+word-requires-2 c κs = search needs
+
+word-requires-3 : tie.Need-word-requires-3
+word-requires-3 c κs = search needs
+
+word-requires-4 : tie.Need-word-requires-4
+word-requires-4 c κs = search needs
+
+word-requires-5 : tie.Need-word-requires-5
+word-requires-5 c κs = search needs
+
+number-requires : tie.Need-number-requires
+number-requires c κs = search needs
+
+element-copy-out-t26 : tie.Need-element-copy-out-t26
+element-copy-out-t26 c = search needs
+
+word-requires-6 : tie.Need-word-requires-6
+word-requires-6 c κs = search needs
+
+returns : tie.Need-returns
+unfolding record-of
+returns c =
+    let at-room = room (fill c) in
+    let at-sizes = sizes (number at-room) in
+    let at-months = months (opening at-sizes) in
+    λ i. record {
+      kind = getD (start at-months .args .words .now) 7 0;
+      head =
+          record {
+            months = at-months .word .ensures i;
+            opening = opening at-sizes .word2 .ensures i;
+            sizes = at-sizes .word3 .ensures i;
+          };
+      number = number at-room .word4 .ensures i;
+      room = at-room .word5 .ensures i;
+      fill = fill c .number .ensures i;
+      «fill_byte» = getD (start at-months .args .words .now) 55 0;
+      length = c .word6 .ensures i;
+    }
+
+pub decode-spec : {M : Type 1} → statement M
+decode-spec =
+    tie.close
+    (tie.spec
+    element-copy-out-t4
+    word-requires
+    word-requires-2
+    word-requires-3
+    word-requires-4
+    word-requires-5
+    number-requires
+    element-copy-out-t26
+    word-requires-6
+    returns)

@@ -1,0 +1,3 @@
+pub mod Rooms
+pub mod Records
+pub mod Checksum
