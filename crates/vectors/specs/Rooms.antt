@@ -9,6 +9,10 @@ use Rattle.vectors.specs.declared.record.Record.{Record}
 abbrev pub row-capacity : ℕ
 row-capacity = 400
 
+-- the length of the row in use after a record that brings one: 0 where there is no room for it
+unfoldable pub row-used : ℕ → ℕ → ℕ
+row-used count room = cond (ltb row-capacity count || ltb room count) 0 count
+
 -- the most bytes of a plan that a record may bring
 abbrev pub byte-capacity : ℕ
 byte-capacity = 2560
@@ -17,10 +21,6 @@ byte-capacity = 2560
 abbrev pub workspace-capacity : ℕ
 workspace-capacity = workspace-room + 6
 
--- the length of the row in use after a record that brings one: 0 where there is no room for it
-unfoldable pub row-used : ℕ → ℕ → ℕ
-row-used count room = cond (ltb row-capacity count || ltb room count) 0 count
-
--- and after any record: another than a row's, of kind 0, leaves it
+-- the length of the row in use after any record: another than a row's, of kind 0, leaves it
 unfoldable pub used-after : Record → ℕ → ℕ → ℕ
 used-after r room used = cond (eqb (r .kind) 0) (row-used (r .length) room) used

@@ -15,24 +15,9 @@ use Rattle.codec.proofs.Answered.{written-as, writes, writes-bytes, wri
 use Rattle.codec.proofs.write.Statement.{statement}
 use Rattle.codec.proofs.write.Tie as tie
 
--- the places after the calls and the test, each from the next
+-- the hops between places of the code, each above the first fact that goes by it
 abbrev start : tie.After-refusal → tie.Start
 start c = c .before .before .before
-
-abbrev checked : tie.Else1 → tie.After-refusal
-checked c = c .before
-
-abbrev passed : tie.After-byte-length → tie.Else1
-passed c = c .before
-
-abbrev counted : tie.After-encode-arg → tie.After-byte-length
-counted c = c .before
-
-abbrev lent : tie.After-encode → tie.After-encode-arg
-lent c = c .before
-
-abbrev stored : tie.After-slice-known2 → tie.After-encode
-stored c = c .before .before
 
 abbrev head-at : tie.After-refusal → Head
 head-at c = start c .args .head
@@ -45,6 +30,9 @@ bytes-at c = start c .args .bytes .now
 
 refusal-requires : tie.Need-refusal-requires
 refusal-requires c κs = search needs
+
+abbrev checked : tie.Else1 → tie.After-refusal
+checked c = c .before
 
 -- The lent bytes are stored to on this path alone: nothing is refused here.
 none : (c : tie.Else1) → write-refusal (head-at (checked c)) (row-at (checked c)) (length (bytes-at (checked c))) ≡ 0
@@ -66,15 +54,27 @@ known c = written _ _ _ (none c)
 byte-length-requires : tie.Need-byte-length-requires
 byte-length-requires c κs = accepted-head _ _ (known c .0)
 
+abbrev passed : tie.After-byte-length → tie.Else1
+passed c = c .before
+
 slice-relend-prefix-encode : tie.Need-slice-relend-prefix-encode
 slice-relend-prefix-encode c = omega (arith, c .byte-length .ensures, known (passed c) .1)
 
+abbrev measured : tie.After-encode-arg → tie.After-byte-length
+measured c = c .before
+
 slice-aggregate-encode : tie.Need-slice-aggregate-encode
-slice-aggregate-encode c = sym (length-take-le _ _ (slice-relend-prefix-encode (counted c)))
+slice-aggregate-encode c = sym (length-take-le _ _ (slice-relend-prefix-encode (measured c)))
+
+abbrev lent : tie.After-encode → tie.After-encode-arg
+lent c = c .before
+
+abbrev stored : tie.After-slice-known2 → tie.After-encode
+stored c = c .before .before
 
 returns-2 : tie.Need-returns-2
 returns-2 c =
-    let at-length = counted (lent (stored c)) in
+    let at-length = measured (lent (stored c)) in
     let at-test = passed at-length in (
       ap₂ written-as (at-test .if1 .left) (at-length .byte-length .ensures) ∙ sym (writes _ _ _ (none at-test)),
       ap₂ (λ l n. l ++ drop n (bytes-at (checked at-test))) (stored c .encode .ensures) (at-length .byte-length .ensures)
@@ -83,8 +83,8 @@ returns-2 c =
 
 encode-requires : tie.Need-encode-requires
 encode-requires c κs = (
-  known (passed (counted c)) .0,
-  length-take-le _ _ (slice-relend-prefix-encode (counted c)) ∙ counted c .byte-length .ensures,
+  known (passed (measured c)) .0,
+  length-take-le _ _ (slice-relend-prefix-encode (measured c)) ∙ measured c .byte-length .ensures,
 )
 
 same-length : tie.Need-same-length

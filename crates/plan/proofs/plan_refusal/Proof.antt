@@ -20,58 +20,12 @@ use Rattle.plan.proofs.Checks.{survivable, by-head, by-length, by-chanc
 use Rattle.plan.proofs.plan_refusal.Statement.{statement}
 use Rattle.plan.proofs.plan_refusal.Tie as tie
 
--- the places after the calls and the tests that pass, each from the next
+-- the hops between places of the code, each above the first fact that goes by it
 abbrev start : tie.After-head-refusal → tie.Start
 start c = c .before .before
 
 abbrev head-checked : tie.Else1 → tie.After-head-refusal
 head-checked c = c .before
-
-abbrev head-passed : tie.After-row-length → tie.Else1
-head-passed c = c .before
-
-abbrev row-counted : tie.Else2 → tie.After-row-length
-row-counted c = c .before
-
-abbrev length-passed : tie.After-some-above → tie.Else2
-length-passed c = c .before
-
-abbrev row-searched : tie.Else3 → tie.After-some-above
-row-searched c = c .before
-
-abbrev chance-passed : tie.After-sum-of-arg → tie.Else3
-chance-passed c = c .before
-
-abbrev weights-lent : tie.After-sum-of → tie.After-sum-of-arg
-weights-lent c = c .before
-
-abbrev weights-summed : tie.Else4 → tie.After-sum-of
-weights-summed c = c .before
-
-abbrev weights-passed : tie.After-shared-slice-known2 → tie.Else4
-weights-passed c = c .before
-
-abbrev tail-read : tie.Then5 → tie.After-shared-slice-known2
-tail-read c = c .before
-
-abbrev tail-found : tie.After-largest-level → tie.Then5
-tail-found c = c .before
-
--- where the head passed, from each later test on
-abbrev head-2 : tie.Else2 → tie.Else1
-head-2 c = head-passed (row-counted c)
-
-abbrev head-3 : tie.Else3 → tie.Else1
-head-3 c = head-2 (length-passed (row-searched c))
-
-abbrev head-4 : tie.After-sum-of → tie.Else1
-head-4 c = head-3 (chance-passed (weights-lent c))
-
-abbrev head-5 : tie.After-shared-slice-known2 → tie.Else1
-head-5 c = head-4 (weights-summed (weights-passed c))
-
-abbrev head-6 : tie.After-largest-level → tie.Else1
-head-6 c = head-5 (tail-read (tail-found c))
 
 abbrev head-at : tie.Else1 → Head
 head-at c = start (head-checked c) .args .head
@@ -95,9 +49,19 @@ limits c = head-facts _ (head-ok c)
 row-length-requires : tie.Need-row-length-requires
 row-length-requires c κs = head-ok c
 
+abbrev head-passed : tie.After-row-length → tie.Else1
+head-passed c = c .before
+
 returns-2 : tie.Need-returns-2
 returns-2 c =
     sym (by-length _ _ (head-ok (head-passed (c .before))) (λ e. c .if2 .taken (e ∙ sym (c .before .row-length .ensures))))
+
+abbrev row-counted : tie.Else2 → tie.After-row-length
+row-counted c = c .before
+
+-- where the head passed, from each later test on
+abbrev head-2 : tie.Else2 → tie.Else1
+head-2 c = head-passed (row-counted c)
 
 -- the row is as long as the head says
 row-is : (c : tie.Else2) → length (row-at (head-2 c)) ≡ row-length (head-at (head-2 c))
@@ -105,6 +69,9 @@ row-is c = c .if2 .left ∙ row-counted c .row-length .ensures
 
 some-above-requires : tie.Need-some-above-requires
 some-above-requires c κs = search needs
+
+abbrev length-passed : tie.After-some-above → tie.Else2
+length-passed c = c .before
 
 returns-3 : tie.Need-returns-3
 unfolding S
@@ -128,6 +95,15 @@ part-sum-of-start c = search needs
 part-sum-of-end : tie.Need-part-sum-of-end
 part-sum-of-end c = search needs
 
+abbrev row-searched : tie.Else3 → tie.After-some-above
+row-searched c = c .before
+
+abbrev chance-passed : tie.After-sum-of-arg → tie.Else3
+chance-passed c = c .before
+
+abbrev head-3 : tie.Else3 → tie.Else1
+head-3 c = head-2 (length-passed (row-searched c))
+
 sum-of-requires : tie.Need-sum-of-requires
 sum-of-requires c κs =
     simp (length-take, length-drop)
@@ -135,6 +111,12 @@ sum-of-requires c κs =
 
 cast-if4 : tie.Need-cast-if4
 cast-if4 c = search needs
+
+abbrev weights-lent : tie.After-sum-of → tie.After-sum-of-arg
+weights-lent c = c .before
+
+abbrev head-4 : tie.After-sum-of → tie.Else1
+head-4 c = head-3 (chance-passed (weights-lent c))
 
 -- the sum is that of the weights and the tail
 summed : (c : tie.After-sum-of) → c .sum-of .result ≡ total (drop (head-at (head-4 c) .months) (row-at (head-4 c)))
@@ -171,6 +153,15 @@ shared-slice-read-if5 c = search needs
 add-if6 : tie.Need-add-if6
 add-if6 c = search needs
 
+abbrev weights-summed : tie.Else4 → tie.After-sum-of
+weights-summed c = c .before
+
+abbrev weights-passed : tie.After-shared-slice-known2 → tie.Else4
+weights-passed c = c .before
+
+abbrev head-5 : tie.After-shared-slice-known2 → tie.Else1
+head-5 c = head-4 (weights-summed (weights-passed c))
+
 -- the weights add up, and the tail decides
 tail-left :
     (c : tie.After-shared-slice-known2)
@@ -179,8 +170,17 @@ tail-left :
 unfolding S
 tail-left c = rw (weighed (weights-summed (weights-passed c)), eq-eqb _ _ (weights-passed c .if4 .left))
 
+abbrev tail-read : tie.Then5 → tie.After-shared-slice-known2
+tail-read c = c .before
+
 largest-level-requires : tie.Need-largest-level-requires
 largest-level-requires c κs = head-ok (head-5 (tail-read c))
+
+abbrev tail-found : tie.After-largest-level → tie.Then5
+tail-found c = c .before
+
+abbrev head-6 : tie.After-largest-level → tie.Else1
+head-6 c = head-5 (tail-read (tail-found c))
 
 -- with a tail, the largest level decides
 level-left :

@@ -13,18 +13,9 @@ use Rattle.codec.proofs.Fields.{length-fields}
 use Rattle.codec.proofs.reading.numbers_refusal.Statement.{statement}
 use Rattle.codec.proofs.reading.numbers_refusal.Tie as tie
 
--- the places after the borrows and the calls, each from the next
+-- the hops between places of the code, each above the first fact that goes by it
 abbrev start : tie.After-row → tie.Start
 start c = c .before .before
-
-abbrev lent : tie.After-decode → tie.After-row
-lent c = c .before
-
-abbrev stored : tie.After-row2 → tie.After-decode
-stored c = c .before
-
-abbrev shared : tie.After-plan-refusal → tie.After-row2
-shared c = c .before .before
 
 abbrev bytes-at : tie.After-row → List ℕ
 bytes-at c = start c .args .bytes .now
@@ -45,12 +36,18 @@ slice-aggregate-decode c = sym (lent-length c)
 decode-requires : tie.Need-decode-requires
 decode-requires c κs = rw (lent-length c) (start c .pre)
 
+abbrev lent : tie.After-decode → tie.After-row
+lent c = c .before
+
 -- the numbers that were read
 decoded : (c : tie.After-decode) → c .decode .last .1 .0 ≡ fields 31 (count-at (lent c)) (drop head-bits (bits-of (bytes-at (lent c))))
 decoded c = c .decode .ensures ∙ ap (λ n. fields 31 n (drop head-bits (bits-of (bytes-at (lent c))))) (lent-length (lent c))
 
 decoded-length : (c : tie.After-decode) → length (c .decode .last .1 .0) ≡ count-at (lent c)
 decoded-length c = ap length (decoded c) ∙ length-fields 31 _ _
+
+abbrev stored : tie.After-row2 → tie.After-decode
+stored c = c .before
 
 array-share-prefix-row : tie.Need-array-share-prefix-row
 array-share-prefix-row c = simp length-append (omega (arith, decoded-length (stored c)))
@@ -60,6 +57,9 @@ slice-aggregate-plan-refusal c = sym (length-take-le _ _ (array-share-prefix-row
 
 plan-refusal-requires : tie.Need-plan-refusal-requires
 plan-refusal-requires c κs = search needs
+
+abbrev shared : tie.After-plan-refusal → tie.After-row2
+shared c = c .before .before
 
 returns : tie.Need-returns
 returns c =

@@ -20,52 +20,12 @@ use Rattle.codec.proofs.Refusals.{fill-test, read-stub, read-head, read
 use Rattle.codec.proofs.reading.refusal.Statement.{statement}
 use Rattle.codec.proofs.reading.refusal.Tie as tie
 
--- the places after the calls and the tests that pass, each from the next
+-- the hops between places of the code, each above the first fact that goes by it
 abbrev start : tie.Else1 → tie.Start
 start c = c .before .before
 
 abbrev stub-passed : tie.After-head-of → tie.Else1
 stub-passed c = c .before
-
-abbrev head-read : tie.After-head-refusal → tie.After-head-of
-head-read c = c .before
-
-abbrev head-checked : tie.Else2 → tie.After-head-refusal
-head-checked c = c .before
-
-abbrev head-passed : tie.After-byte-length → tie.Else2
-head-passed c = c .before
-
-abbrev bytes-counted : tie.Else3 → tie.After-byte-length
-bytes-counted c = c .before
-
-abbrev length-passed : tie.After-bit-length → tie.Else3
-length-passed c = c .before
-
-abbrev end-found : tie.After-field → tie.After-bit-length
-end-found c = c .before
-
-abbrev fill-read : tie.Else4 → tie.After-field
-fill-read c = c .before
-
-abbrev fill-passed : tie.After-row-length → tie.Else4
-fill-passed c = c .before
-
-abbrev row-counted : tie.After-numbers-refusal → tie.After-row-length
-row-counted c = c .before
-
-abbrev numbers-checked : tie.Else5 → tie.After-numbers-refusal
-numbers-checked c = c .before
-
--- where the head was read, from each test on
-abbrev head-2 : tie.Else2 → tie.After-head-of
-head-2 c = head-read (head-checked c)
-
-abbrev head-3 : tie.Else3 → tie.After-head-of
-head-3 c = head-2 (head-passed (bytes-counted c))
-
-abbrev head-4 : tie.Else4 → tie.After-head-of
-head-4 c = head-3 (length-passed (end-found (fill-read c)))
 
 abbrev bytes-at : tie.After-head-of → List ℕ
 bytes-at c = start (stub-passed c) .args .bytes .now
@@ -82,6 +42,9 @@ head-refusal-requires c κs = search needs
 stub-ok : (c : tie.After-head-of) → 3 ≤ length (bytes-at c)
 stub-ok c = stub-passed c .if1 .left
 
+abbrev head-read : tie.After-head-refusal → tie.After-head-of
+head-read c = c .before
+
 -- the head's refusal
 head-number : (c : tie.After-head-refusal) → c .head-refusal .result ≡ first (head-checks (head-of (bytes-at (head-read c))))
 head-number c = c .head-refusal .ensures ∙ ap (λ h. first (head-checks h)) (head-read c .head-of .ensures)
@@ -90,6 +53,13 @@ returns-2 : tie.Need-returns-2
 returns-2 c =
     head-number (c .before)
     ∙ sym (read-head _ _ (stub-ok (head-read (c .before))) (λ e. c .if2 .taken (head-number (c .before) ∙ e)))
+
+abbrev head-checked : tie.Else2 → tie.After-head-refusal
+head-checked c = c .before
+
+-- where the head was read, from each test on
+abbrev head-2 : tie.Else2 → tie.After-head-of
+head-2 c = head-read (head-checked c)
 
 head-ok : (c : tie.Else2) → HeadAccepted (head-of (bytes-at (head-2 c)))
 head-ok c = sym (head-number (head-checked c)) ∙ c .if2 .left
@@ -101,6 +71,9 @@ head-ok-here c = sym (head-checked c .head-refusal .ensures) ∙ c .if2 .left
 byte-length-requires : tie.Need-byte-length-requires
 byte-length-requires c κs = head-ok-here c
 
+abbrev head-passed : tie.After-byte-length → tie.Else2
+head-passed c = c .before
+
 byte-length-is : (c : tie.After-byte-length) → c .byte-length .result ≡ byte-length (head-of (bytes-at (head-2 (head-passed c))))
 byte-length-is c = c .byte-length .ensures ∙ ap byte-length (head-2 (head-passed c) .head-of .ensures)
 
@@ -108,6 +81,12 @@ returns-3 : tie.Need-returns-3
 returns-3 c =
     let passed = head-passed (c .before) in
     sym (read-length _ _ (stub-ok (head-2 passed)) (head-ok passed) (λ e. c .if3 .taken (e ∙ sym (byte-length-is (c .before)))))
+
+abbrev bytes-counted : tie.Else3 → tie.After-byte-length
+bytes-counted c = c .before
+
+abbrev head-3 : tie.Else3 → tie.After-head-of
+head-3 c = head-2 (head-passed (bytes-counted c))
 
 length-is : (c : tie.Else3) → length (bytes-at (head-3 c)) ≡ byte-length (head-of (bytes-at (head-3 c)))
 length-is c = c .if3 .left ∙ byte-length-is (bytes-counted c)
@@ -117,6 +96,9 @@ head-ok-3 c = head-ok-here (head-passed (bytes-counted c))
 
 bit-length-requires : tie.Need-bit-length-requires
 bit-length-requires c κs = head-ok-3 c
+
+abbrev length-passed : tie.After-bit-length → tie.Else3
+length-passed c = c .before
 
 -- the row ends in the last byte
 ends :
@@ -145,6 +127,9 @@ field-requires c κs = omega (arith, ends c)
 
 end-is : (c : tie.After-bit-length) → c .bit-length .result ≡ bit-length (head-of (bytes-at (head-3 (length-passed c))))
 end-is c = c .bit-length .ensures ∙ ap bit-length (head-3 (length-passed c) .head-of .ensures)
+
+abbrev end-found : tie.After-field → tie.After-bit-length
+end-found c = c .before
 
 abbrev filled-bytes : tie.After-field → List ℕ
 filled-bytes c = bytes-at (head-3 (length-passed (end-found c)))
@@ -176,6 +161,12 @@ returns-4 c =
     (length-is passed)
     (padding (c .before) ∙ rw (ne-eqb _ 0 (c .if4 .taken))))
 
+abbrev fill-read : tie.Else4 → tie.After-field
+fill-read c = c .before
+
+abbrev head-4 : tie.Else4 → tie.After-head-of
+head-4 c = head-3 (length-passed (end-found (fill-read c)))
+
 fill-zero : (c : tie.Else4) → any (eqb 1) (fill-of (bytes-at (head-4 c))) ≡ false
 fill-zero c = padding (fill-read c) ∙ ap (λ n. not (eqb n 0)) (c .if4 .left)
 
@@ -185,12 +176,18 @@ head-ok-4 c = head-ok-3 (length-passed (end-found (fill-read c)))
 row-length-requires : tie.Need-row-length-requires
 row-length-requires c κs = head-ok-4 c
 
+abbrev fill-passed : tie.After-row-length → tie.Else4
+fill-passed c = c .before
+
 numbers-refusal-requires : tie.Need-numbers-refusal-requires
 unfolding bit-length
 numbers-refusal-requires c κs =
     let limits = head-facts _ (head-ok-4 (fill-passed c)) in
     let end = end-found (fill-read (fill-passed c)) in
     omega (arith, c .row-length .ensures, ends end, end .bit-length .ensures)
+
+abbrev row-counted : tie.After-numbers-refusal → tie.After-row-length
+row-counted c = c .before
 
 abbrev read-bytes : tie.After-numbers-refusal → List ℕ
 read-bytes c = bytes-at (head-4 (fill-passed (row-counted c)))
@@ -229,6 +226,9 @@ rest c =
 
 returns-5 : tie.Need-returns-5
 returns-5 c = sym (rest (c .before) ∙ rw (ne-eqb _ 0 (c .if5 .taken)))
+
+abbrev numbers-checked : tie.Else5 → tie.After-numbers-refusal
+numbers-checked c = c .before
 
 -- only the room is left
 room-left :

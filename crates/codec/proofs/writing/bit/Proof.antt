@@ -7,19 +7,6 @@ use Rattle.codec.proofs.PlanBits.{months-bit, opening-bit, sizes-bit, n
 use Rattle.codec.proofs.writing.bit.Statement.{statement}
 use Rattle.codec.proofs.writing.bit.Tie as tie
 
--- the places after the tests, each from the next: a position is past a field
-abbrev start : tie.Else1 → tie.Start
-start c = c .before .before
-
-abbrev past-months : tie.Else2 → tie.Else1
-past-months c = c .before
-
-abbrev past-opening : tie.Else3 → tie.Else2
-past-opening c = c .before
-
-abbrev past-head : tie.After-shared-slice-known2 → tie.Else3
-past-head c = c .before .before
-
 sub-digit : tie.Need-sub-digit
 sub-digit c = search needs
 
@@ -53,6 +40,10 @@ sub-digit-6 c = search needs
 digit-requires-3 : tie.Need-digit-requires-3
 digit-requires-3 c κs = search needs
 
+-- the hops between places of the code, each above the first fact that goes by it
+abbrev past-months : tie.Else2 → tie.Else1
+past-months c = c .before
+
 returns-3 : tie.Need-returns-3
 returns-3 c =
     let opening = c .before .before in
@@ -63,6 +54,15 @@ mul-digit c = search needs
 
 shared-slice-read-digit : tie.Need-shared-slice-read-digit
 shared-slice-read-digit c = search needs
+
+abbrev start : tie.Else1 → tie.Start
+start c = c .before .before
+
+abbrev past-opening : tie.Else3 → tie.Else2
+past-opening c = c .before
+
+abbrev past-head : tie.After-shared-slice-known2 → tie.Else3
+past-head c = c .before .before
 
 cast-digit : tie.Need-cast-digit
 cast-digit c =

@@ -23,8 +23,8 @@ slice-aggregate-all-months-back : tie.Need-slice-aggregate-all-months-back
 slice-aggregate-all-months-back c = simp length-take (omega arith)
 
 -- the places at the calls, each from the next
-abbrev start : tie.After-all-months-back → tie.Start
-start c = c .before .before .before .before .before .before
+abbrev start : tie.After-all-months-back-arg → tie.Start
+start c = c .before .before .before .before .before
 
 abbrev lower : tie.After-all-months-back2 → tie.After-all-months-back
 lower c = c .before .before .before .before
@@ -32,7 +32,7 @@ lower c = c .before .before .before .before
 all-months-back-requires : tie.Need-all-months-back-requires
 unfolding S
 all-months-back-requires c κs =
-    let from = c .before .before .before .before .before in
+    let from = start c in
     (lower-rows (from .args .shape) (from .args .halves .now) (from .pre .0), ((from .pre .1 .0, omega arith), from .pre .1 .1))
 
 mul-all-months-back : tie.Need-mul-all-months-back
@@ -50,19 +50,19 @@ part-all-months-back-end c = search needs
 -- the second half as it is lent
 second :
     (c : tie.After-all-months-back) →
-    let xs = start c .args .halves .now in
-    let half = rows-size (start c .args .shape) in
+    let xs = start (c .before) .args .halves .now in
+    let half = rows-size (start (c .before) .args .shape) in
     let halves = c .all-months-back .last .0 ++ drop half xs in
     midOf half (length halves - half) halves ≡ drop half xs
 second c =
-    let from = start c in
+    let from = start (c .before) in
     second-lent (from .args .halves .now) (c .all-months-back .last .0) (c .all-months-back .last .0) (rows-size (from .args .shape)) (from .pre .0 .size) (c .all-months-back .kept .0)
 
 all-months-back-requires-2 : tie.Need-all-months-back-requires-2
 unfolding S
 all-months-back-requires-2 c κs =
     let at-lower = c .before .before .before in
-    let from = start at-lower in
+    let from = start (at-lower .before) in
     (rw (second at-lower) (upper-rows (from .args .shape) (from .args .halves .now) (from .pre .0)), ((from .pre .1 .0, omega arith), from .pre .1 .1))
 
 same-length : tie.Need-same-length
@@ -74,7 +74,7 @@ returns c =
     let at-upper = c .before .before in
     let last = at-upper .all-months-back2 in
     let first = lower at-upper .all-months-back in
-    let from = start (lower at-upper) in
+    let from = start (lower at-upper .before) in
     let xs = from .args .halves .now in
     let half = rows-size (from .args .shape) in (
       rw (down-by, first-half xs (first .last .0) (last .last .0) half (from .pre .0 .size) (first .kept .0)) (first .ensures .0),

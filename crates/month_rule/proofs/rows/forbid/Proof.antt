@@ -40,9 +40,6 @@ same-length : tie.Need-same-length
 same-length c = search needs
 
 -- the places at the calls, each from the next
-abbrev start : tie.After-lesser → tie.Start
-start c = c .before .before
-
 abbrev first : tie.After-fill → tie.After-lesser
 first c = c .before .before
 
@@ -58,7 +55,7 @@ returns c =
     let at-last = last at-back in
     let at-front = front at-last in
     let at-first = first at-front in
-    let a = start at-first .args in
+    let a = at-first .before .before .args in
     forbidden (a .row .now) (at-front .fill .last .0) (at-back .fill2 .last .0) (a .first) (a .last) (at-first .lesser .result) (at-last .lesser2 .result)
     (at-first .lesser .ensures) (at-front .fill .ensures) (at-last .lesser2 .ensures) (at-back .fill2 .ensures)
 

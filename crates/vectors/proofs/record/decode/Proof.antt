@@ -57,6 +57,7 @@ word-requires-6 c κs = search needs
 returns : tie.Need-returns
 unfolding record-of
 returns c =
+    let last = c .word6 in
     let at-room = room (fill c) in
     let at-sizes = sizes (number at-room) in
     let at-months = months (opening at-sizes) in
@@ -72,7 +73,7 @@ returns c =
       room = at-room .word5 .ensures i;
       fill = fill c .number .ensures i;
       «fill_byte» = getD (start at-months .args .words .now) 55 0;
-      length = c .word6 .ensures i;
+      length = last .ensures i;
     }
 
 pub decode-spec : {M : Type 1} → statement M
