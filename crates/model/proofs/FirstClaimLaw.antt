@@ -27,8 +27,9 @@ claim-sum-printed F Y r =
 first-claim-later : (P : ℕ) (Ps : List ℕ) (i : ℕ) → first-claim-in (P ∷ Ps) (suc (suc i)) ≡ (S - P) * first-claim-in Ps (suc i)
 unfolding first-claim-in nth product
 first-claim-later P Ps i =
-    rw (two, one, product-ext i (λ j. S - nth (P ∷ Ps) (suc j)) (λ j. S - nth Ps j) (λ j. refl))
-    (mul-left-comm (getD Ps i 0) (S - P) (product i (λ j. S - nth Ps j)))
+    ap (λ (n : ℕ). getD Ps i 0 * product n (λ j. S - nth (P ∷ Ps) j)) two
+    ∙ (rw (one, product-ext i (λ j. S - nth (P ∷ Ps) (suc j)) (λ j. S - nth Ps j) (λ j. refl))
+    (mul-left-comm (getD Ps i 0) (S - P) (product i (λ j. S - nth Ps j))))
   where
     two : suc (suc i) - 1 ≡ suc i
     two = omega arith
@@ -81,12 +82,7 @@ some-claim-month :
     (P : ℕ) (Ps : List ℕ) → some-claim (P ∷ Ps) ≡ P * (S * S ^ (2 * length Ps)) + (S - P) * S * some-claim Ps
 unfolding some-claim sum
 some-claim-month P Ps =
-    rw (
-      first-claim-first P Ps,
-      sum-ext n (λ t. first-claim-in (P ∷ Ps) (suc t) * S ^ (2 * suc n - suc t)) (λ t. (S - P) * S * term t) later,
-      sum-times n ((S - P) * S) term,
-      one-less,
-    )
+    ap₂ (λ (a b : ℕ). a + b) first (sum-ext n _ (λ t. (S - P) * S * term t) later ∙ sum-times n ((S - P) * S) term)
   where
     n : ℕ
     n = length Ps
@@ -96,6 +92,9 @@ some-claim-month P Ps =
 
     one-less : S ^ (2 * suc n - 1) ≡ S * S ^ (2 * n)
     one-less = ap (λ (e : ℕ). S ^ e) (omega arith) ∙ pow-succ' S (2 * n)
+
+    first : first-claim-in (P ∷ Ps) 1 * S ^ (2 * suc n - 1) ≡ P * (S * S ^ (2 * n))
+    first = rw (first-claim-first P Ps, one-less)
 
     exponent : (i : ℕ) → i < n → 2 * suc n - suc (suc i) ≡ suc (2 * n - suc i)
     exponent i l = omega arith
