@@ -71,7 +71,7 @@ claims-last (Both k) width = omega arith
 claims-last (High L) width = refl
 claims-last (Low L) width = refl
 
--- Where claims are not counted there is one row, and every claim leads back to it.
+-- Where claims are not tallied there is one row, and every claim leads back to it.
 one-last : (j : ℕ) → j < 1 → (s : ℕ) → S ≡ all-placed j s
 unfolding all-placed
 one-last zero l s = refl

@@ -27,7 +27,7 @@ pub month-agree :
 unfolding month
 month-agree round F P X Y X′ Y′ s ex ey = rw (ex, claim-sum-agree F Y Y′ (s + gain) (λ k a b. ey k b))
 
--- the row with no claims left: where claims are counted, a claim adds nothing
+-- the row with no claims left: where claims are tallied, a claim adds nothing
 month-own :
     (round : Rounding) (F : List ℕ) (P : ℕ) (X : Row) (rows : ℕ → Row) (tallied : Bool) (s : ℕ) →
     month round (take (own-sizes tallied (length F)) F) P X (rows 0) s ≡ month round F P X (claimed-row rows (after-claim-by tallied 0)) s

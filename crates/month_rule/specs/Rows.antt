@@ -47,7 +47,7 @@ round-by bias x = (x + bias) / S
 unfoldable pub between : ℕ → ℕ → ℕ → Bool
 between low above s = leb low s && ltb s above
 
--- The claims left after one more claim. Where claims are not counted there is one row, which every claim comes back to.
+-- The claims left after one more claim. Where claims are not tallied there is one row, which every claim comes back to.
 unfoldable pub after-claim-by : Bool → ℕ → Option ℕ
 after-claim-by tallied zero = cond tallied none (some 0)
 after-claim-by tallied (suc k) = some k
