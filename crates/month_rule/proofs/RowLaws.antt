@@ -52,13 +52,13 @@ pub parts-part : (xs : List ℕ) (a n : ℕ) → Parts xs → Parts (take n (dro
 parts-part xs a n h = record { each = λ k. le-trans (getD-take-le n (drop a xs) k) (parts-drop xs a h .each k) }
 
 -- a part while it is filled
-pub record Filling (old : List ℕ) (value : ℕ) (part : List ℕ) (k : ℕ) : Type 0 where
+pub record FilledTo (old : List ℕ) (value : ℕ) (part : List ℕ) (k : ℕ) : Type 0 where
   pub within : k ≤ length old
   pub same-length : length part ≡ length old
   pub so-far : part ≡ replicate k value ++ drop k old
 
-pub filling-end : (old : List ℕ) (value : ℕ) (part : List ℕ) (k : ℕ) → length part ≤ k → Filling old value part k → part ≡ replicate (length old) value
-filling-end old value part k l h =
+pub filled-to-end : (old : List ℕ) (value : ℕ) (part : List ℕ) (k : ℕ) → length part ≤ k → FilledTo old value part k → part ≡ replicate (length old) value
+filled-to-end old value part k l h =
     let all : k ≡ length old = omega (arith, h .within, h .same-length) in
     h .so-far ∙ rw (all, drop-of-length-le old {i = length old} (le-refl (length old)), append-nil)
 

@@ -43,20 +43,20 @@ pub claim-sum-fits : (F : List ℕ) (Y : Row) → total F ≤ S → ((s : ℕ) �
 claim-sum-fits F Y hF hY s = le-trans (claim-sum-bound F Y S hY s) (mul-le-mul-right S hF)
 
 -- The loop over the sizes and the values that they lead to, those of the levels n to 1: the sum so far and the sum of the rest are the whole.
-pub record Summing (F xs : List ℕ) (most sum x : ℕ) : Type 0 where
+pub record ClaimSumming (F xs : List ℕ) (most sum x : ℕ) : Type 0 where
   pub within : x ≤ most
   pub most-is : most ≡ min (length xs) (length F)
   pub whole :
       sum + claim-sum (drop x F) (from-top (length xs) xs) (length xs + 1 - x) ≡ claim-sum F (from-top (length xs) xs) (length xs + 1)
 
-pub summing-start : (F xs : List ℕ) (most : ℕ) → most ≡ min (length xs) (length F) → Summing F xs most 0 0
-summing-start F xs most e = record { within = omega arith; most-is = e; whole = rw (zero-add, sub-zero) }
+pub claim-summing-start : (F xs : List ℕ) (most : ℕ) → most ≡ min (length xs) (length F) → ClaimSumming F xs most 0 0
+claim-summing-start F xs most e = record { within = omega arith; most-is = e; whole = rw (zero-add, sub-zero) }
 
 -- one term more, which the whole bounds
-pub summing-turn :
-    (F xs : List ℕ) → total F ≤ S → Parts xs → (most sum x : ℕ) → x < most → Summing F xs most sum x →
-    (weight value : ℕ) → weight ≡ getD F x 0 → value ≡ getD xs x 0 → (sum + weight * value ≤ S * S) × Summing F xs most (sum + weight * value) (x + 1)
-summing-turn F xs hF hY most sum x l h weight value ew ev =
+pub claim-summing-turn :
+    (F xs : List ℕ) → total F ≤ S → Parts xs → (most sum x : ℕ) → x < most → ClaimSumming F xs most sum x →
+    (weight value : ℕ) → weight ≡ getD F x 0 → value ≡ getD xs x 0 → (sum + weight * value ≤ S * S) × ClaimSumming F xs most (sum + weight * value) (x + 1)
+claim-summing-turn F xs hF hY most sum x l h weight value ew ev =
     let n : ℕ = length xs in
     let here : n - (n + 1 - (x + 1)) ≡ x = omega arith in
     let term : getD F x 0 * from-top n xs (n + 1 - (x + 1)) ≡ weight * value = rw (here, ew, ev) in
@@ -65,9 +65,9 @@ summing-turn F xs hF hY most sum x l h weight value ew ev =
       record { within = omega arith; most-is = h .most-is; whole = omega (arith, term, more, h .whole) },
     )
 
-pub summing-end :
-    (F xs : List ℕ) (most sum x : ℕ) → most ≤ x → Summing F xs most sum x → sum ≡ claim-sum F (from-top (length xs) xs) (length xs + 1)
-summing-end F xs most sum x l h =
+pub claim-summing-end :
+    (F xs : List ℕ) (most sum x : ℕ) → most ≤ x → ClaimSumming F xs most sum x → sum ≡ claim-sum F (from-top (length xs) xs) (length xs + 1)
+claim-summing-end F xs most sum x l h =
     omega (arith, h .whole, claim-sum-end F (from-top (length xs) xs) (length xs + 1) x (omega (arith, h .most-is)))
 
 -- a quotient by S, rounded either way, of what does not pass S × S

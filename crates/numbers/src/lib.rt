@@ -23,17 +23,10 @@ pub fn wide(x: u32) -> u64
     x as u64
 }
 
-fn index(x: u8) -> usize
+pub fn index(x: u8) -> usize
     ensures { λ r. ⌜ r ≡ x ⌝ }
 {
     x as usize
-}
-
-// For numbers of 32 bits that come in bytes.
-pub fn word(x: u8) -> u32
-    ensures { λ r. ⌜ r ≡ x ⌝ }
-{
-    x as u32
 }
 
 // The number of `count` bytes from a place on, most significant first.

@@ -2,8 +2,8 @@
 ghost use mathlib.Core.Path.{_≡_};
 ghost use Rattle.vectors.specs.Checksum.{more, checksum};
 use model::limits::PLACES;
+use numbers::index;
 use numbers::wide;
-use numbers::word;
 
 pub fn first(x: u64) {
     io::print_decimal(libc::STDOUT_FILENO, x);
@@ -33,7 +33,7 @@ pub fn bytes(memory: &[u8]) {
     let mut i = 0;
     while i < memory.len() {
         io::write_all(libc::STDOUT_FILENO, b" ");
-        io::print_hex(libc::STDOUT_FILENO, wide(word(memory[i])), 2);
+        io::print_hex(libc::STDOUT_FILENO, index(memory[i]) as u64, 2);
         i += 1;
     }
 }

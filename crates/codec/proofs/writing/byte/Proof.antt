@@ -23,18 +23,21 @@ loop-holds : tie.Need-loop-holds Inv-loop μ-loop
 unfolding number
 loop-holds c = (search needs, refl)
 
+abbrev start : tie.At-loop Inv-loop μ-loop → tie.Start Inv-loop μ-loop
+start c = c .before .before
+
 abbrev plan-at : tie.At-loop Inv-loop μ-loop → List ℕ
-plan-at c = filled-bits (c .before .before .args .head) (c .before .before .args .row .now)
+plan-at c = filled-bits (start c .args .head) (start c .args .row .now)
 
 abbrev from-at : tie.At-loop Inv-loop μ-loop → ℕ
-from-at c = c .before .before .args .from
+from-at c = start c .args .from
 
-known : (c : tie.At-loop Inv-loop μ-loop) → Facts (c .before .before .args .head) (c .before .before .args .row .now)
-known c = facts _ _ (c .before .before .pre .0)
+known : (c : tie.At-loop Inv-loop μ-loop) → Facts (start c .args .head) (start c .args .row .now)
+known c = facts _ _ (start c .pre .0)
 
 -- the byte lies within the plan's bits
 inside : (c : tie.In-loop Inv-loop μ-loop) → from-at (c .before) + c .before .loop .k < length (plan-at (c .before))
-inside c = rw (length-filled (c .before .before .before .args .head) _ (known (c .before) .row-is)) (omega arith)
+inside c = rw (length-filled (start (c .before) .args .head) _ (known (c .before) .row-is)) (omega arith)
 
 -- the bits so far and the next one are a byte
 turn :
@@ -46,13 +49,13 @@ turn c b next = field-fits _ _ _ _ _ (c .before .loop .inv .1) next (inside c) 8
 next-bit :
     (c : tie.After-bit Inv-loop μ-loop)
     → c .bit .result ≡ getD (plan-at (c .before .before)) (from-at (c .before .before) + c .before .before .loop .k) 0
-next-bit c = c .bit .ensures ∙ sym (filled-at (c .before .before .before .before .args .head) _ _)
+next-bit c = c .bit .ensures ∙ sym (filled-at (start (c .before .before) .args .head) _ _)
 
 mul-x : tie.Need-mul-x Inv-loop μ-loop
 mul-x c = omega (arith, turn c _ refl)
 
 add-bit : tie.Need-add-bit Inv-loop μ-loop
-add-bit c = omega (arith, byte-length-fits _ (accepted-head _ _ (c .before .before .before .pre .0)))
+add-bit c = omega (arith, byte-length-fits _ (accepted-head _ _ (start (c .before) .pre .0)))
 
 bit-requires : tie.Need-bit-requires Inv-loop μ-loop
 bit-requires c κs = search needs

@@ -17,14 +17,17 @@ Inv-loop head row bytes₀ i₀ bytes i = Filling 8 (filled-bits head row) bytes
 abbrev μ-loop : tie.MeasureT-loop
 μ-loop head row bytes₀ i₀ bytes i = length bytes - i
 
+abbrev start : tie.At-loop Inv-loop μ-loop → tie.Start Inv-loop μ-loop
+start c = c .before .before .before
+
 loop-holds : tie.Need-loop-holds Inv-loop μ-loop
 loop-holds c = filling-none _ _ _
 
 mul-byte : tie.Need-mul-byte Inv-loop μ-loop
-mul-byte c = omega (arith, byte-length-fits _ (accepted-head _ _ (c .before .before .before .before .pre .0)))
+mul-byte c = omega (arith, byte-length-fits _ (accepted-head _ _ (start (c .before) .pre .0)))
 
 byte-requires : tie.Need-byte-requires Inv-loop μ-loop
-byte-requires c κs = (c .before .before .before .before .pre .0, omega arith)
+byte-requires c κs = (start (c .before) .pre .0, omega arith)
 
 slice-write-bytes : tie.Need-slice-write-bytes Inv-loop μ-loop
 slice-write-bytes c = search needs
@@ -44,9 +47,8 @@ same-length c = c .before .loop .inv .same
 returns : tie.Need-returns Inv-loop μ-loop
 unfolding bytes-of
 returns c =
-    let start = c .before .before .before .before in
     filling-done _ _ _ _ _ (c .before .loop .inv) (c .loop-test .left)
-    ∙ ap (λ n. fields 8 n (filled-bits (start .args .head) (start .args .row .now))) (start .pre .1)
+    ∙ ap (λ n. fields 8 n (filled-bits (start (c .before) .args .head) (start (c .before) .args .row .now))) (start (c .before) .pre .1)
 
 pub encode-spec : {M : Type 1} → statement M
 encode-spec =

@@ -11,6 +11,9 @@ use Rattle.codec.proofs.Refusals.{write-refused, write-room}
 use Rattle.codec.proofs.writing.refusal.Statement.{statement}
 use Rattle.codec.proofs.writing.refusal.Tie as tie
 
+abbrev start : tie.Else1 → tie.Start
+start c = c .before .before .before
+
 plan-refusal-requires : tie.Need-plan-refusal-requires
 plan-refusal-requires c κs = search needs
 
@@ -19,19 +22,19 @@ returns c =
     c .before .plan-refusal .ensures
     ∙ sym (write-refused _ _ _ (λ e. c .if1 .taken (c .before .plan-refusal .ensures ∙ e)))
 
-accepted : (c : tie.Else1) → Accepted (c .before .before .before .args .head) (c .before .before .before .args .row .now)
+accepted : (c : tie.Else1) → Accepted (start c .args .head) (start c .args .row .now)
 accepted c = sym (c .before .plan-refusal .ensures) ∙ c .if1 .left
 
 byte-length-requires : tie.Need-byte-length-requires
 byte-length-requires c κs = accepted-head _ _ (accepted c)
 
 abbrev room-at : tie.After-byte-length → ℕ
-room-at c = c .before .before .before .before .args .room
+room-at c = start (c .before) .args .room
 
 -- only the room is left
 room-left :
     (c : tie.After-byte-length)
-    → write-refusal (c .before .before .before .before .args .head) (c .before .before .before .before .args .row .now) (room-at c)
+    → write-refusal (start (c .before) .args .head) (start (c .before) .args .row .now) (room-at c)
     ≡ cond (ltb (room-at c) (c .byte-length .result)) 11 0
 room-left c =
     write-room _ _ _ (accepted (c .before)) ∙ ap (λ n. cond (ltb (room-at c) n) 11 0) (sym (c .byte-length .ensures))

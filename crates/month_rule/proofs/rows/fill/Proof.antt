@@ -4,12 +4,12 @@ use Prim.Native.Nat.{_-_, _<_}
 use native.Mathlib.Omega.{arith}
 use borrow.Author.Fill.{fill-more}
 use lib.ListN.{length, length-set}
-use Rattle.month_rule.proofs.RowLaws.{Filling, filling-end}
+use Rattle.month_rule.proofs.RowLaws.{FilledTo, filled-to-end}
 use Rattle.month_rule.proofs.rows.fill.Statement.{statement}
 use Rattle.month_rule.proofs.rows.fill.Tie as tie
 
 abbrev Inv-loop : tie.InvT-loop
-Inv-loop part₀ value k₀ part k = Filling part₀ value part k
+Inv-loop part₀ value k₀ part k = FilledTo part₀ value part k
 
 abbrev μ-loop : tie.MeasureT-loop
 μ-loop part₀ value k₀ part k = length part₀ - k
@@ -50,7 +50,7 @@ returns : tie.Need-returns Inv-loop μ-loop
 returns c =
     let loop = c .before .loop in
     let a = c .before .before .args in
-    filling-end (a .part .now) (a .value) (loop .part) (loop .k) (c .loop-test .left) (loop .inv)
+    filled-to-end (a .part .now) (a .value) (loop .part) (loop .k) (c .loop-test .left) (loop .inv)
 
 pub fill-spec : {M : Type 1} → statement M
 fill-spec =

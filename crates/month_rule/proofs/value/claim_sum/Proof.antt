@@ -2,12 +2,12 @@
 use Prim.Native.Nat.{_+_, _*_, _-_, _≤_}
 use native.Mathlib.Omega.{arith}
 use Rattle.model.specs.Scale.{S}
-use Rattle.month_rule.proofs.ValueLaws.{Summing, summing-start, summing-turn, summing-end}
+use Rattle.month_rule.proofs.ValueLaws.{ClaimSumming, claim-summing-start, claim-summing-turn, claim-summing-end}
 use Rattle.month_rule.proofs.value.claim_sum.Statement.{statement}
 use Rattle.month_rule.proofs.value.claim_sum.Tie as tie
 
 abbrev Inv-loop : tie.InvT-loop
-Inv-loop severity after most sum₀ x₀ sum x = Summing severity after most sum x
+Inv-loop severity after most sum₀ x₀ sum x = ClaimSumming severity after most sum x
 
 abbrev μ-loop : tie.MeasureT-loop
 μ-loop severity after most sum₀ x₀ sum x = most - x
@@ -16,7 +16,7 @@ lesser-requires : tie.Need-lesser-requires Inv-loop μ-loop
 lesser-requires c κs = tt
 
 loop-holds : tie.Need-loop-holds Inv-loop μ-loop
-loop-holds c = let a = c .before .before .before .args in summing-start (a .severity .now) (a .after .now) (c .lesser .result) (c .lesser .ensures)
+loop-holds c = let a = c .before .before .before .args in claim-summing-start (a .severity .now) (a .after .now) (c .lesser .result) (c .lesser .ensures)
 
 mul-wide : tie.Need-mul-wide Inv-loop μ-loop
 mul-wide c = omega arith
@@ -52,11 +52,11 @@ added :
     let at-loop = turn (weight c) .before in
     let a = start at-loop .args in
     let sum = at-loop .loop .sum + weight c .wide .result * c .wide2 .result in
-    (sum ≤ S * S) × Summing (a .severity .now) (a .after .now) (at-loop .before .lesser .result) sum (at-loop .loop .x + 1)
+    (sum ≤ S * S) × ClaimSumming (a .severity .now) (a .after .now) (at-loop .before .lesser .result) sum (at-loop .loop .x + 1)
 added c =
     let at-loop = turn (weight c) .before in
     let from = start at-loop in
-    summing-turn (from .args .severity .now) (from .args .after .now) (from .pre .1) (from .pre .0) _ (at-loop .loop .sum) (at-loop .loop .x)
+    claim-summing-turn (from .args .severity .now) (from .args .after .now) (from .pre .1) (from .pre .0) _ (at-loop .loop .sum) (at-loop .loop .x)
     (turn (weight c) .loop-test .taken) (at-loop .loop .inv) (weight c .wide .result) (c .wide2 .result) (weight c .wide .ensures) (c .wide2 .ensures)
 
 mul-sum : tie.Need-mul-sum Inv-loop μ-loop
@@ -80,7 +80,7 @@ returns : tie.Need-returns Inv-loop μ-loop
 returns c =
     let at-loop = c .before in
     let a = start at-loop .args in
-    summing-end (a .severity .now) (a .after .now) _ (at-loop .loop .sum) (at-loop .loop .x) (c .loop-test .left) (at-loop .loop .inv)
+    claim-summing-end (a .severity .now) (a .after .now) _ (at-loop .loop .sum) (at-loop .loop .x) (c .loop-test .left) (at-loop .loop .inv)
 
 pub claim-sum-spec : {M : Type 1} → statement M
 claim-sum-spec =
