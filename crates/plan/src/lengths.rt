@@ -2,7 +2,7 @@
 use model::Head;
 use model::limits;
 ghost use mathlib.Core.Path.{_≡_};
-ghost use lib.ListN.{length};
+ghost use lib.ListN.{length, replicate};
 ghost use Rattle.model.specs.Limits.{row-room};
 ghost use Rattle.model.specs.Levels.{largest-level, row-levels};
 ghost use Rattle.model.specs.Plan.{row-length};
@@ -32,9 +32,10 @@ pub fn row_levels(head: Head) -> usize
     largest_level(head) + 1
 }
 
-// Room for every plan's row. The `ensures` gives the length, which lending a part of the array needs.
+// Room for every plan's row. The second `ensures` gives the length, which lending a part of the array needs.
 pub fn blank_row() -> [u32; limits::ROW]
-    ensures { λ r. ⌜ row-room ≡ length r ⌝ }
+    ensures blank { λ r. ⌜ r ≡ replicate row-room 0 ⌝ }
+    ensures sized { λ r. ⌜ row-room ≡ length r ⌝ }
 {
     [0; limits::ROW]
 }

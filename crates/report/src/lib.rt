@@ -15,7 +15,7 @@ use plan::lengths::row_length;
 ghost use mathlib.Core.Path.{_≡_};
 ghost use Prim.Native.Nat.{_≤_};
 ghost use mathlib.Core.List.{_++_};
-ghost use lib.ListN.{length, take, drop};
+ghost use lib.ListN.{length, take, drop, replicate};
 ghost use Rattle.model.specs.Limits.{workspace-room};
 ghost use Rattle.model.specs.Plan.{row-length};
 ghost use Rattle.codec.specs.Answers.{row-after};
@@ -38,9 +38,10 @@ pub fn report(bytes: &[u8], text: &mut [u8; TEXT]) -> usize
     put_report(text, bytes, &mut row, &mut workspace)
 }
 
-// The `ensures` gives the length, which lending the array needs.
+// The second `ensures` gives the length, which lending the array needs.
 fn workspace() -> [u32; limits::WORKSPACE]
-    ensures { λ r. ⌜ workspace-room ≡ length r ⌝ }
+    ensures blank { λ r. ⌜ r ≡ replicate workspace-room 0 ⌝ }
+    ensures sized { λ r. ⌜ workspace-room ≡ length r ⌝ }
 {
     [0; limits::WORKSPACE]
 }
