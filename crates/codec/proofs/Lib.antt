@@ -1,7 +1,7 @@
 -- The laws of plan bytes. Theorems has what the reader and other crates cite.
 pub mod Fields
 pub mod PlanBits
-pub mod Refusals
+pub mod RefusalLaws
 pub mod Answered
 pub mod RoundTrip
 pub mod Theorems

@@ -18,7 +18,7 @@ use Rattle.model.specs.Refusal.{first, head-checks, plan-refusal, Accepted}
 use Rattle.model.proofs.Facts.{Facts, facts, accepted-head}
 use Rattle.codec.proofs.Fields.{Bits, after-first, length-bits, number-bits, bits-field, bits-drop, flat-fields, fields-flat, length-fields}
 use Rattle.codec.proofs.PlanBits.{length-plan, length-filled, bits-filled, length-bits-of, bits-bits-of, bits-fill-of}
-use Rattle.codec.proofs.Refusals.{Readable, row-inside}
+use Rattle.codec.proofs.RefusalLaws.{Readable, row-inside}
 
 -- the number that a field of its width holds
 field-back : (w x : ℕ) (rest : List ℕ) → x < 2 ^ w → number (take w (bits w x ++ rest)) ≡ x

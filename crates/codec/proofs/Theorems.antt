@@ -11,7 +11,7 @@ use Rattle.model.specs.Plan.{row-length}
 use Rattle.model.specs.Format.{byte-length, bytes-of, head-of, row-of}
 use Rattle.model.specs.Refusal.{Accepted, read-refusal, write-refusal}
 use Rattle.codec.specs.Answers.{read-answer, row-after, write-answer, bytes-after}
-use Rattle.codec.proofs.Refusals.{Readable, readable, accepts, row-is, written, write-room}
+use Rattle.codec.proofs.RefusalLaws.{Readable, readable, accepts, row-is, written, write-room}
 use Rattle.codec.proofs.Answered.{read-as, written-as, reads, reads-row, read-number, writes, writes-bytes, write-number}
 use Rattle.codec.proofs.RoundTrip.{length-back, head-back, row-back, readable-back, bytes-back}
 

@@ -13,7 +13,7 @@ use Rattle.model.specs.Format.{bits, number, fields, head-bits, plan-bits, bit-
 use Rattle.model.specs.Format.{bits-of, head-of, row-of, fill-of}
 use Rattle.model.specs.Refusal.{first, head-checks, number-checks, tail-survivable, Accepted, plan-refusal, read-refusal, write-refusal}
 use Rattle.codec.specs.Answers.{read-answer, row-after, write-answer, bytes-after}
-use Rattle.codec.proofs.Refusals.{Readable, readable, accepts, row-is, write-room}
+use Rattle.codec.proofs.RefusalLaws.{Readable, readable, accepts, row-is, write-room}
 use Rattle.codec.proofs.Answered.{read-as, written-as, reads, reads-row, writes, writes-bytes}
 
 -- Bytes are read, with 0, as a head and a row, and these are written, with 0, as the bytes, whatever memory is lent that is long enough.

@@ -13,7 +13,7 @@ use Rattle.model.specs.Limits.{row-room}
 use Rattle.model.specs.Format.{bits, bits-of, head-of}
 use Rattle.model.specs.Refusal.{first, head-checks, read-refusal}
 use Rattle.codec.proofs.PlanBits.{longest, byte-length-fits}
-use Rattle.codec.proofs.Refusals.{read-head, read-length}
+use Rattle.codec.proofs.RefusalLaws.{read-head, read-length}
 use Rattle.report.specs.Report.{refused-line, report-of}
 use Rattle.report.proofs.Laws.{report-refused}
 

@@ -20,7 +20,7 @@ use Rattle.model.proofs.Facts.{HeadFacts}
 use Rattle.model.proofs.Counts.{length-tabulate, getD-tabulate}
 use Rattle.codec.specs.Answers.{row-after}
 use Rattle.codec.proofs.Answered.{reads-row}
-use Rattle.codec.proofs.Refusals.{row-is}
+use Rattle.codec.proofs.RefusalLaws.{row-is}
 use Rattle.engine.specs.Answers.{count-answer, count-rows}
 use Rattle.report.specs.Text.{ascii, joined, Appended}
 use Rattle.report.proofs.TextLaws.{entry-at-most, line-at-most, joined-at-most, joined-same}

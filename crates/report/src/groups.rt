@@ -60,7 +60,7 @@ pub fn put_group(
     ensures cleared { λ _. ⌜ Cleared (now (workspace .entry)) (now (workspace .exit)) ⌝ }
 {
     let range = line_range(question, head);
-    put_questions(
+    put_range(
         text,
         at,
         head,
@@ -73,7 +73,7 @@ pub fn put_group(
 }
 
 // A question's lines, its number rising from the first.
-fn put_questions(
+fn put_range(
     text: &mut [u8],
     at: usize,
     head: Head,

@@ -11,7 +11,7 @@ use Rattle.model.specs.Format.{head-bits, bits-of, fields, head-of, row-of}
 use Rattle.model.specs.Refusal.{HeadAccepted, read-refusal}
 use Rattle.model.proofs.Facts.{head-facts}
 use Rattle.codec.specs.Answers.{no-head}
-use Rattle.codec.proofs.Refusals.{Readable, readable, row-inside}
+use Rattle.codec.proofs.RefusalLaws.{Readable, readable, row-inside}
 use Rattle.codec.proofs.Answered.{read-as, reads, reads-row, read-refused, row-kept}
 use Rattle.codec.proofs.read.Statement.{statement}
 use Rattle.codec.proofs.read.Tie as tie

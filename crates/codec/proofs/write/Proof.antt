@@ -10,7 +10,7 @@ use Rattle.model.specs.declared.Head.{Head}
 use Rattle.model.specs.Format.{byte-length}
 use Rattle.model.specs.Refusal.{Accepted, write-refusal}
 use Rattle.model.proofs.Facts.{accepted-head}
-use Rattle.codec.proofs.Refusals.{written}
+use Rattle.codec.proofs.RefusalLaws.{written}
 use Rattle.codec.proofs.Answered.{written-as, writes, writes-bytes, write-refused, bytes-kept}
 use Rattle.codec.proofs.write.Statement.{statement}
 use Rattle.codec.proofs.write.Tie as tie

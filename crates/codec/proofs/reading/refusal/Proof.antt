@@ -1,4 +1,4 @@
--- `codec::reading::refusal` meets its contract: `Refusals` puts its tests together as the table does.
+-- `codec::reading::refusal` meets its contract: `RefusalLaws` puts its tests together as the table does.
 use Prim.Native.Nat.{ℕ, _+_, _*_, _-_, _<_, _≤_}
 use mathlib.Core.Path.{_≡_, sym, ap, ap₂, _∙_}
 use mathlib.Core.Bool.{false, not, cond}
@@ -16,7 +16,7 @@ use Rattle.model.specs.Format.{number, head-bits, bits-of, fields, bit-length, 
 use Rattle.model.specs.Refusal.{first, head-checks, HeadAccepted, plan-refusal, read-refusal}
 use Rattle.model.proofs.Facts.{head-facts}
 use Rattle.codec.proofs.PlanBits.{length-bits-of, longest, byte-length-fits}
-use Rattle.codec.proofs.Refusals.{fill-test, read-stub, read-head, read-length, read-padding, read-rest}
+use Rattle.codec.proofs.RefusalLaws.{fill-test, read-stub, read-head, read-length, read-padding, read-rest}
 use Rattle.codec.proofs.reading.refusal.Statement.{statement}
 use Rattle.codec.proofs.reading.refusal.Tie as tie
 

@@ -7,7 +7,7 @@ use borrow.Author.Tests.{lt-ltb, le-ltb}
 use lib.Dec.{ltb}
 use Rattle.model.specs.Refusal.{Accepted, write-refusal}
 use Rattle.model.proofs.Facts.{accepted-head}
-use Rattle.codec.proofs.Refusals.{write-refused, write-room}
+use Rattle.codec.proofs.RefusalLaws.{write-refused, write-room}
 use Rattle.codec.proofs.writing.refusal.Statement.{statement}
 use Rattle.codec.proofs.writing.refusal.Tie as tie
 

@@ -10,7 +10,7 @@ use Rattle.report.proofs.groups.put_group.Tie as tie
 abbrev start : tie.After-slice-known2 → tie.Start
 start c = c .before .before .before
 
-abbrev range : tie.After-put-questions-arg2 → tie.After-line-range
+abbrev range : tie.After-put-range-arg2 → tie.After-line-range
 range c = c .before .before
 
 head-ok : (s : tie.Start) → HeadAccepted (s .args .head)
@@ -19,8 +19,8 @@ head-ok s = accepted-head _ _ (s .pre .0 .accepted)
 line-range-requires : tie.Need-line-range-requires
 line-range-requires c κs = head-ok (start c)
 
-put-questions-requires : tie.Need-put-questions-requires
-put-questions-requires c κs =
+put-range-requires : tie.Need-put-range-requires
+put-range-requires c κs =
     let s = start (range c .before) in
     (s .pre .0, rw (range c .line-range .ensures) (range-fits _ _ (head-facts _ (head-ok s)) (search needs) (s .pre .1)))
 
@@ -33,8 +33,8 @@ same-length-2 c = search needs
 returns : tie.Need-returns
 returns c =
     let put = c .before .before .before .before in
-    (rw (← range (put .before) .line-range .ensures) (put .put-questions .ensures .0), put .put-questions .ensures .1)
+    (rw (← range (put .before) .line-range .ensures) (put .put-range .ensures .0), put .put-range .ensures .1)
 
 pub put-group-spec : {M : Type 1} → statement M
 put-group-spec =
-    tie.close (tie.spec line-range-requires put-questions-requires same-length same-length-2 returns)
+    tie.close (tie.spec line-range-requires put-range-requires same-length same-length-2 returns)

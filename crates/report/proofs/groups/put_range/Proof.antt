@@ -1,4 +1,4 @@
--- `groups::put_questions` meets its contract. The invariant: the first i lines are appended, and their questions have cleared the workspace.
+-- `groups::put_range` meets its contract. The invariant: the first i lines are appended, and their questions have cleared the workspace.
 -- Assumes nothing.
 use Prim.Native.Nat.{_-_}
 use mathlib.Core.Path.{_≡_}
@@ -11,8 +11,8 @@ use Rattle.report.specs.Asking.{Answerable, Cleared}
 use Rattle.report.proofs.AskingLaws.{cleared-none, cleared-more, cleared-long, answerable-still, asked-clears}
 use Rattle.report.specs.Report.{question-at, question-lines, line-room}
 use Rattle.report.proofs.Laws.{question-short}
-use Rattle.report.proofs.groups.put_questions.Statement.{statement}
-use Rattle.report.proofs.groups.put_questions.Tie as tie
+use Rattle.report.proofs.groups.put_range.Statement.{statement}
+use Rattle.report.proofs.groups.put_range.Tie as tie
 
 abbrev Inv-loop : tie.InvT-loop
 Inv-loop text₀ at head question first count row workspace₀ end₀ i₀ text workspace end i =
@@ -77,8 +77,8 @@ returns : tie.Need-returns Inv-loop μ-loop
 unfolding question-lines
 returns c = (appending-done (c .before .loop .inv .0) (search needs), c .before .loop .inv .1)
 
-pub put-questions-spec : {M : Type 1} → statement M
-put-questions-spec =
+pub put-range-spec : {M : Type 1} → statement M
+put-range-spec =
     tie.close
     (tie.spec
     Inv-loop
