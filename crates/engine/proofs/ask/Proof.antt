@@ -43,14 +43,14 @@ fits c = let a = start c .args in facts (a .ask .head) (a .row .now) (known c .a
 head-fits : (c : tie.Else1) → HeadAccepted (start c .args .ask .head)
 head-fits c = let a = start c .args in accepted-head (a .ask .head) (a .row .now) (known c .accepted)
 
+abbrev answered : tie.After-struct-known → tie.Else1
+answered c = c .before .before
+
 add-end : tie.Need-add-end
-add-end c = omega (arith, fits (c .before .before))
+add-end c = omega (arith, fits (answered c))
 
 row-levels-requires : tie.Need-row-levels-requires
-row-levels-requires c κs = head-fits (c .before .before)
-
-abbrev answered : tie.After-row-levels → tie.Else1
-answered c = c .before .before .before
+row-levels-requires c κs = head-fits (answered c)
 
 abbrev measured : tie.After-shape-of → tie.After-row-levels
 measured c = c .before
@@ -58,28 +58,35 @@ measured c = c .before
 abbrev shaped : tie.After-workspace-needed → tie.After-shape-of
 shaped c = c .before
 
-abbrev sized : tie.After-question-bounds → tie.After-workspace-needed
-sized c = c .before .before .before .before
+abbrev sized : tie.After-question-bounds-arg3 → tie.After-workspace-needed
+sized c = c .before .before .before
+
+-- where nothing was refused, from each call on
+abbrev of-levels : tie.After-row-levels → tie.Else1
+of-levels c = answered (c .before)
+
+abbrev of-needed : tie.After-workspace-needed → tie.Else1
+of-needed c = of-levels (measured (shaped c))
 
 shape-of-requires : tie.Need-shape-of-requires
-shape-of-requires c κs = known (answered c) .inside
+shape-of-requires c κs = known (of-levels c) .inside
 
 workspace-needed-requires : tie.Need-workspace-needed-requires
-workspace-needed-requires c κs = (head-fits (answered (c .before)), known (answered (c .before)) .inside)
+workspace-needed-requires c κs = (head-fits (of-levels (c .before)), known (of-levels (c .before)) .inside)
 
 -- the shape's rows are wide enough, there is one, and both halves are what is needed
 width-is :
     (c : tie.After-workspace-needed) →
-    let a = start (answered (measured (shaped c))) .args in
+    let a = start (of-needed c) .args in
     shaped c .shape-of .result .width ≡ row-levels (a .ask .head .opening) (a .ask .head .months)
 width-is c =
-    let q = start (answered (measured (shaped c))) .args .ask .question in
+    let q = start (of-needed c) .args .ask .question in
     let width = measured (shaped c) .row-levels in
     ap (λ s. s .width) (shaped c .shape-of .ensures) ∙ shape-width q (width .result) ∙ width .ensures
 
 rows-some : (c : tie.After-workspace-needed) → 0 < shaped c .shape-of .result .rows
 rows-some c =
-    let else1 = answered (measured (shaped c)) in
+    let else1 = of-needed c in
     let q = start else1 .args .ask .question in
     omega (
       arith,
@@ -87,23 +94,23 @@ rows-some c =
       rows-few q (known else1 .inside),
     )
 
-needed-is : (c : tie.After-workspace-needed) → workspace-needed (start (answered (measured (shaped c))) .args .ask) ≡ 2 * rows-size (shaped c .shape-of .result)
+needed-is : (c : tie.After-workspace-needed) → workspace-needed (start (of-needed c) .args .ask) ≡ 2 * rows-size (shaped c .shape-of .result)
 needed-is c =
-    let a = start (answered (measured (shaped c))) .args in
+    let a = start (of-needed c) .args in
     let width = measured (shaped c) .row-levels in
     needed-halves (a .ask) (width .result) (width .ensures) ∙ ap (λ s. 2 * rows-size s) (sym (shaped c .shape-of .ensures))
 
 slice-relend-prefix-question-bounds : tie.Need-slice-relend-prefix-question-bounds
-slice-relend-prefix-question-bounds c = omega (arith, c .workspace-needed .ensures, known (answered (measured (shaped c))) .enough)
+slice-relend-prefix-question-bounds c = omega (arith, c .workspace-needed .ensures, known (of-needed c) .enough)
 
 slice-aggregate-question-bounds : tie.Need-slice-aggregate-question-bounds
-slice-aggregate-question-bounds c = simp length-take (omega (arith, c .before .workspace-needed .ensures, known (answered (measured (shaped (c .before)))) .enough))
+slice-aggregate-question-bounds c = simp length-take (omega (arith, c .before .workspace-needed .ensures, known (of-needed (c .before)) .enough))
 
 slice-aggregate-question-bounds-2 : tie.Need-slice-aggregate-question-bounds-2
-slice-aggregate-question-bounds-2 c = simp length-take (omega (arith, fits (answered (measured (shaped (c .before .before)))) .row-is))
+slice-aggregate-question-bounds-2 c = simp length-take (omega (arith, fits (of-needed (c .before .before)) .row-is))
 
 mul-question-bounds : tie.Need-mul-question-bounds
-mul-question-bounds c = omega (arith, fits (answered (measured (shaped (c .before .before)))) .head .months-fit)
+mul-question-bounds c = omega (arith, fits (of-needed (c .before .before)) .head .months-fit)
 
 sub-question-bounds : tie.Need-sub-question-bounds
 sub-question-bounds c = search needs
@@ -112,16 +119,16 @@ part-question-bounds-start : tie.Need-part-question-bounds-start
 part-question-bounds-start c = search needs
 
 part-question-bounds-end : tie.Need-part-question-bounds-end
-part-question-bounds-end c = omega (arith, fits (answered (measured (shaped (c .before .before)))) .row-is)
+part-question-bounds-end c = omega (arith, fits (of-needed (c .before .before)) .row-is)
 
 question-bounds-requires : tie.Need-question-bounds-requires
 question-bounds-requires c κs =
-    let n = c .before .before .before in
-    let f = fits (answered (measured (shaped n))) in
-    let a = start (answered (measured (shaped n))) .args in (
+    let n = sized c in
+    let f = fits (of-needed n) in
+    let a = start (of-needed n) .args in (
       (
         rows-some n,
-        length-take-le (n .workspace-needed .result) (a .workspace .now) (omega (arith, n .workspace-needed .ensures, known (answered (measured (shaped n))) .enough))
+        length-take-le (n .workspace-needed .result) (a .workspace .now) (omega (arith, n .workspace-needed .ensures, known (of-needed n) .enough))
             ∙ n .workspace-needed .ensures
             ∙ needed-is n,
       ),
@@ -137,8 +144,8 @@ same-length c = search needs
 returns-2 : tie.Need-returns-2
 returns-2 c =
     let call = c .before .before .question-bounds in
-    let n = sized (c .before .before) in
-    let else1 = answered (measured (shaped n)) in
+    let n = sized (c .before .before .before) in
+    let else1 = of-needed n in
     let a = start else1 .args in
     let h = a .ask .head in
     let row = a .row .now in

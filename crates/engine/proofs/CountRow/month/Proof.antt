@@ -10,11 +10,11 @@ use Rattle.engine.proofs.CountRow.month.Statement.{statement}
 use Rattle.engine.proofs.CountRow.month.Tie as tie
 
 -- the places at the calls, each from the next
-abbrev start : tie.After-count-month → tie.Start
-start c = c .before .before .before .before
+abbrev start : tie.After-lower2 → tie.Start
+start c = c .before .before .before
 
-abbrev lower : tie.After-count-month2 → tie.After-count-month
-lower c = c .before .before .before
+abbrev lower : tie.After-upper2 → tie.After-count-month
+lower c = c .before .before
 
 slice-aggregate-count-month : tie.Need-slice-aggregate-count-month
 slice-aggregate-count-month c = search needs
@@ -22,7 +22,7 @@ slice-aggregate-count-month c = search needs
 count-month-requires : tie.Need-count-month-requires
 unfolding S
 count-month-requires c κs =
-    let from = c .before .before .before in
+    let from = start c in
     (omega (arith, from .pre .0 .lower-length), from .pre .0 .lower-parts, from .pre .1, omega arith)
 
 slice-aggregate-count-month-2 : tie.Need-slice-aggregate-count-month-2
@@ -31,7 +31,7 @@ slice-aggregate-count-month-2 c = search needs
 count-month-requires-2 : tie.Need-count-month-requires-2
 unfolding S
 count-month-requires-2 c κs =
-    let from = start (c .before .before) in
+    let from = start (lower c .before) in
     (omega (arith, from .pre .0 .upper-length), from .pre .0 .upper-parts, from .pre .1, omega arith)
 
 returns : tie.Need-returns
@@ -39,8 +39,9 @@ unfolding S rows-after
 returns c =
     let at-upper = c .before in
     let high = at-upper .count-month2 in
-    let low = lower at-upper .count-month in
-    let from = start (lower at-upper) in
+    let at-lower = lower (at-upper .before) in
+    let low = at-lower .count-month in
+    let from = start (at-lower .before) in
     let P = from .args .chance in
     let row = from .args .self in
     let lows = count-after-is 0 down down-by P (row .lower) (low .last .0) (from .pre .0 .lower-length) (low .ensures) in

@@ -18,41 +18,44 @@ last-halves-requires : tie.Need-last-halves-requires
 last-halves-requires c κs = search needs
 
 -- the places at the calls, each from the next
-abbrev start : tie.After-last-halves → tie.Start
-start c = c .before .before .before .before .before
+abbrev start : tie.After-last-halves-arg → tie.Start
+start c = c .before .before .before .before
 
-abbrev filled : tie.After-halves-back → tie.After-last-halves
-filled c = c .before .before .before .before
+abbrev filled : tie.After-halves-back-arg → tie.After-last-halves
+filled c = c .before .before .before
 
-abbrev walked : tie.After-take-bounds → tie.After-halves-back
-walked c = c .before .before .before .before .before
+abbrev walked : tie.After-struct-known → tie.After-halves-back
+walked c = c .before .before .before .before
+
+-- the start of the function, from after the second call
+abbrev of-walk : tie.After-halves-back → tie.Start
+of-walk c = start (filled (c .before) .before)
 
 halves-back-requires : tie.Need-halves-back-requires
 halves-back-requires c κs =
-    let at-last = c .before .before .before in
-    let last = at-last .last-halves in
-    let from = start at-last in
+    let last = filled c .last-halves in
+    let from = start (filled c .before) in
     let halves : HalvesIn (from .args .shape) (last .last .0) = record { some = from .pre .0 .0; size = last .kept .0 ∙ from .pre .0 .1; parts = last .ensures .1 .1 } in
     (halves, from .pre .1)
 
 -- a half has a first place, and the workspace keeps its length
 some-place :
     (c : tie.After-halves-back) →
-    let a = start (filled c) .args in
+    let a = of-walk c .args in
     (0 < rows-size (a .shape)) × (length (c .halves-back .last .0) ≡ 2 * rows-size (a .shape))
 some-place c =
-    let from = start (filled c) in
+    let from = of-walk c in
     let shape = from .args .shape in (
       omega (arith, from .pre .1 .0, row-fits 0 (shape .rows) (shape .width) (from .pre .0 .0)),
-      c .halves-back .kept .0 ∙ filled c .last-halves .kept .0 ∙ from .pre .0 .1,
+      c .halves-back .kept .0 ∙ filled (c .before) .last-halves .kept .0 ∙ from .pre .0 .1,
     )
 
 mul-take-bounds : tie.Need-mul-take-bounds
-mul-take-bounds c = omega (arith, some-place (c .before .before .before .before))
+mul-take-bounds c = omega (arith, some-place (walked c))
 
 take-bounds-requires : tie.Need-take-bounds-requires
 take-bounds-requires c κs =
-    let at-walk = c .before .before .before .before in
+    let at-walk = walked c in
     (omega (arith, some-place at-walk, at-walk .halves-back .kept .0), omega (arith, some-place at-walk, at-walk .halves-back .kept .0))
 
 same-length : tie.Need-same-length
@@ -62,12 +65,13 @@ returns : tie.Need-returns
 returns c =
     let at-end = c .before .before in
     let taken = at-end .take-bounds in
-    let back = walked at-end .halves-back in
-    let last = filled (walked at-end) .last-halves in
-    let from = start (filled (walked at-end)) in
+    let at-walk = walked (at-end .before) in
+    let back = at-walk .halves-back in
+    let last = filled (at-walk .before) .last-halves in
+    let from = of-walk at-walk in
     let a = from .args in
     let half = rows-size (a .shape) in
-    let fits = some-place (walked at-end) in
+    let fits = some-place at-walk in
     let lower = taken-value down (a .severity .now) (a .shape) (a .opening) (a .chances .now) _ _ (back .ensures .0) (from .pre .0 .0) all-placed (λ k l s m. last .ensures .0 _ (from .pre .1 .0) k l s) in
     let upper = taken-value up (a .severity .now) (a .shape) (a .opening) (a .chances .now) _ _ (back .ensures .1) (from .pre .0 .0) all-placed (λ k l s m. last .ensures .1 .0 _ (from .pre .1 .0) k l s) in (
       taken .ensures .0 .0 ∙ sym (getD-take half (back .last .0) 0 0 (omega arith)) ∙ lower,

@@ -33,11 +33,11 @@ loop-holds c =
 abbrev start : tie.At-loop Inv-loop μ-loop → tie.Start Inv-loop μ-loop
 start c = c .before .before
 
-abbrev turn : tie.After-mixture Inv-loop μ-loop → tie.In-loop Inv-loop μ-loop
-turn c = c .before .before .before
+abbrev turn : tie.After-slice-known3 Inv-loop μ-loop → tie.In-loop Inv-loop μ-loop
+turn c = c .before .before
 
-abbrev ended : tie.After-mixture2 Inv-loop μ-loop → tie.After-loop Inv-loop μ-loop
-ended c = c .before .before
+abbrev ended : tie.After-slice-known4 Inv-loop μ-loop → tie.After-loop Inv-loop μ-loop
+ended c = c .before
 
 -- a place that no turn has reached holds what it held
 old-part : (c : tie.At-loop Inv-loop μ-loop) (i : ℕ) → i ≤ c .loop .k → getD (c .loop .row) i 0 ≤ S
@@ -58,19 +58,19 @@ mul-mixture-2 : tie.Need-mul-mixture-2 Inv-loop μ-loop
 mul-mixture-2 c = omega (arith, c .before .before .loop .inv .within)
 
 slice-read-mixture-2 : tie.Need-slice-read-mixture-2 Inv-loop μ-loop
-slice-read-mixture-2 c = let inv = c .before .before .before .loop .inv in omega (arith, inv .within, inv .same-length)
+slice-read-mixture-2 c = let inv = turn c .before .loop .inv in omega (arith, inv .within, inv .same-length)
 
 mixture-requires : tie.Need-mixture-requires Inv-loop μ-loop
 mixture-requires c κs =
-    let at-loop = c .before .before .before in
+    let at-loop = turn c .before in
     let from = start at-loop in
     (from .pre .2, old-part at-loop (at-loop .loop .k) (omega arith), old-part at-loop (at-loop .loop .k - 1) (omega arith), from .pre .3)
 
 mul-row : tie.Need-mul-row Inv-loop μ-loop
-mul-row c = omega (arith, turn c .before .loop .inv .within)
+mul-row c = omega (arith, turn (c .before) .before .loop .inv .within)
 
 slice-write-row : tie.Need-slice-write-row Inv-loop μ-loop
-slice-write-row c = let inv = turn c .before .loop .inv in omega (arith, inv .within, inv .same-length)
+slice-write-row c = let inv = turn (c .before) .before .loop .inv in omega (arith, inv .within, inv .same-length)
 
 sub-k-2 : tie.Need-sub-k-2 Inv-loop μ-loop
 sub-k-2 c = omega arith
@@ -80,8 +80,9 @@ loop-less c = omega arith
 
 loop-again : tie.Need-loop-again Inv-loop μ-loop
 loop-again c =
-    let loop = turn c .before .loop in
-    let a = start (turn c .before) .args in
+    let at-loop = turn (c .before) .before in
+    let loop = at-loop .loop in
+    let a = start at-loop .args in
     let old = a .row .now in
     let back : loop .k - 1 + 1 ≡ loop .k = omega arith in
     record {
@@ -94,26 +95,27 @@ loop-again c =
     }
 
 slice-read-mixture-3 : tie.Need-slice-read-mixture-3 Inv-loop μ-loop
-slice-read-mixture-3 c = let inv = c .before .before .loop .inv in omega (arith, inv .within, inv .same-length)
+slice-read-mixture-3 c = let inv = ended c .before .loop .inv in omega (arith, inv .within, inv .same-length)
 
 mixture-requires-2 : tie.Need-mixture-requires-2 Inv-loop μ-loop
 mixture-requires-2 c κs =
-    let at-loop = c .before .before in
+    let at-loop = ended c .before in
     let from = start at-loop in
     (from .pre .2, old-part at-loop 0 (omega arith), omega arith, from .pre .3)
 
 slice-write-row-2 : tie.Need-slice-write-row-2 Inv-loop μ-loop
-slice-write-row-2 c = let inv = ended c .before .loop .inv in omega (arith, inv .within, inv .same-length)
+slice-write-row-2 c = let inv = ended (c .before) .before .loop .inv in omega (arith, inv .within, inv .same-length)
 
 same-length : tie.Need-same-length Inv-loop μ-loop
-same-length c = simp length-set (ended c .before .loop .inv .same-length)
+same-length c = simp length-set (ended (c .before) .before .loop .inv .same-length)
 
 returns : tie.Need-returns Inv-loop μ-loop
 returns c =
-    let loop = ended c .before .loop in
-    let a = start (ended c .before) .args in
+    let at-end = ended (c .before) in
+    let loop = at-end .before .loop in
+    let a = start (at-end .before) .args in
     let old = a .row .now in
-    let first : loop .k ≡ 0 = omega (arith, ended c .loop-test .left) in
+    let first : loop .k ≡ 0 = omega (arith, at-end .loop-test .left) in
     let row : loop .row ≡ new-from old (a .bias) (a .chance) 1 = loop .inv .so-far ∙ ap (λ k. new-from old (a .bias) (a .chance) (k + 1)) first in
     new-from-turn old (a .bias) (a .chance) (loop .row) 0 (c .mixture2 .result) (omega (arith, loop .inv .within)) row
     (first-value old (a .bias) (a .chance) (loop .row) (c .mixture2 .result) (omega (arith, loop .inv .within)) row (c .mixture2 .ensures))

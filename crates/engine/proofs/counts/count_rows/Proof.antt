@@ -22,8 +22,8 @@ loop-holds c = (omega arith, rw (c .first-rows .ensures) (counting-rows-start (c
 abbrev start : tie.At-loop Inv-loop μ-loop → tie.Start Inv-loop μ-loop
 start c = c .before .before .before
 
-abbrev turn : tie.After-month Inv-loop μ-loop → tie.In-loop Inv-loop μ-loop
-turn c = c .before .before
+abbrev turn : tie.After-shared-slice-known2 Inv-loop μ-loop → tie.In-loop Inv-loop μ-loop
+turn c = c .before
 
 mul-month : tie.Need-mul-month Inv-loop μ-loop
 mul-month c = omega arith
@@ -33,7 +33,7 @@ shared-slice-read-month c = omega arith
 
 month-requires : tie.Need-month-requires Inv-loop μ-loop
 month-requires c κs =
-    let at-loop = c .before .before in
+    let at-loop = turn c .before in
     (at-loop .loop .inv .1 .parts, start at-loop .pre .each (at-loop .loop .t))
 
 add-t : tie.Need-add-t Inv-loop μ-loop
@@ -44,8 +44,9 @@ loop-less c = omega arith
 
 loop-again : tie.Need-loop-again Inv-loop μ-loop
 loop-again c =
-    let loop = turn c .before .loop in
-    let from = start (turn c .before) in (
+    let at-loop = turn (c .before) .before in
+    let loop = at-loop .loop in
+    let from = start at-loop in (
       omega arith,
       rw (c .month .ensures) (counting-rows-turn (from .args .chances .now) (from .pre) (loop .row) (loop .t) (omega arith) (loop .inv .1)),
     )

@@ -26,8 +26,8 @@ slice-aggregate-all-months-back c = simp length-take (omega arith)
 abbrev start : tie.After-all-months-back-arg → tie.Start
 start c = c .before .before .before .before .before
 
-abbrev lower : tie.After-all-months-back2 → tie.After-all-months-back
-lower c = c .before .before .before .before
+abbrev lower : tie.After-all-months-back-arg2 → tie.After-all-months-back
+lower c = c .before .before .before
 
 all-months-back-requires : tie.Need-all-months-back-requires
 unfolding S
@@ -61,9 +61,8 @@ second c =
 all-months-back-requires-2 : tie.Need-all-months-back-requires-2
 unfolding S
 all-months-back-requires-2 c κs =
-    let at-lower = c .before .before .before in
-    let from = start (at-lower .before) in
-    (rw (second at-lower) (upper-rows (from .args .shape) (from .args .halves .now) (from .pre .0)), ((from .pre .1 .0, omega arith), from .pre .1 .1))
+    let from = start (lower c .before) in
+    (rw (second (lower c)) (upper-rows (from .args .shape) (from .args .halves .now) (from .pre .0)), ((from .pre .1 .0, omega arith), from .pre .1 .1))
 
 same-length : tie.Need-same-length
 same-length c = search needs
@@ -73,12 +72,13 @@ unfolding S
 returns c =
     let at-upper = c .before .before in
     let last = at-upper .all-months-back2 in
-    let first = lower at-upper .all-months-back in
-    let from = start (lower at-upper .before) in
+    let at-lower = lower (at-upper .before) in
+    let first = at-lower .all-months-back in
+    let from = start (at-lower .before) in
     let xs = from .args .halves .now in
     let half = rows-size (from .args .shape) in (
       rw (down-by, first-half xs (first .last .0) (last .last .0) half (from .pre .0 .size) (first .kept .0)) (first .ensures .0),
-      rw (up-by, second-half xs (first .last .0) (last .last .0) half (from .pre .0 .size) (first .kept .0)) (rw (second (lower at-upper)) at (last .ensures .0)),
+      rw (up-by, second-half xs (first .last .0) (last .last .0) half (from .pre .0 .size) (first .kept .0)) (rw (second at-lower) at (last .ensures .0)),
     )
 
 pub halves-back-spec : {M : Type 1} → statement M

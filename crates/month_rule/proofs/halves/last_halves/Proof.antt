@@ -17,9 +17,13 @@ slice-relend-prefix-last-rows c = search needs
 slice-aggregate-last-rows : tie.Need-slice-aggregate-last-rows
 slice-aggregate-last-rows c = simp length-take (omega arith)
 
+-- the hops between places of the code, each above the first fact that goes by it
+abbrev start : tie.After-last-rows-arg → tie.Start
+start c = c .before .before .before
+
 last-rows-requires : tie.Need-last-rows-requires
 last-rows-requires c κs =
-    let from = c .before .before .before in
+    let from = start c in
     (from .pre .0, length-take-le (rows-size (from .args .shape)) (from .args .halves .now) (omega arith))
 
 mul-last-rows : tie.Need-mul-last-rows
@@ -40,19 +44,15 @@ last-rows-requires-2 c κs = search needs
 same-length : tie.Need-same-length
 same-length c = search needs
 
--- the places at the calls, each from the next
-abbrev start : tie.After-last-rows → tie.Start
-start c = c .before .before .before .before
-
-abbrev lower : tie.After-last-rows2 → tie.After-last-rows
-lower c = c .before .before .before .before
+abbrev lower : tie.After-last-rows-arg2 → tie.After-last-rows
+lower c = c .before .before .before
 
 returns : tie.Need-returns
 returns c =
-    let at-upper = c .before .before in
-    let last = at-upper .last-rows2 in
-    let first = lower at-upper .last-rows in
-    let from = start (lower at-upper) in
+    let last = c .before .before .last-rows2 in
+    let at-lower = lower (c .before .before .before) in
+    let first = at-lower .last-rows in
+    let from = start (at-lower .before) in
     let xs = from .args .halves .now in
     let half = rows-size (from .args .shape) in (
       (λ top l k m s. rw (first-half xs (first .last .0) (last .last .0) half (from .pre .1) (first .kept .0)) (first .ensures .0 top l k m s)),

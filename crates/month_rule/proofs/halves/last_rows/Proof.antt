@@ -16,27 +16,30 @@ sub-start c = search needs
 fits : (c : tie.Start) → (c .args .shape .rows - 1) * c .args .shape .width + c .args .shape .width ≤ length (c .args .rows .now)
 fits c = omega (arith, c .pre .1, row-fits (c .args .shape .rows - 1) (c .args .shape .rows) (c .args .shape .width) (omega (arith, c .pre .0)))
 
--- the places at the calls, each from the next
-abbrev start : tie.After-fill → tie.Start
-start c = c .before .before .before .before .before
-
-abbrev zeros : tie.After-fill2 → tie.After-fill
-zeros c = c .before .before .before .before
+-- the hops between places of the code, each above the first fact that goes by it
+abbrev start : tie.After-struct-known2 → tie.Start
+start c = c .before .before .before
 
 mul-start : tie.Need-mul-start
-mul-start c = omega (arith, fits (c .before .before .before))
+mul-start c = omega (arith, fits (start c))
 
 fill-requires : tie.Need-fill-requires
 fill-requires c κs = search needs
 
+abbrev filled : tie.After-fill → tie.After-struct-known2
+filled c = c .before .before
+
+abbrev zeros : tie.After-slice-known2 → tie.After-fill
+zeros c = c .before .before
+
 mul-fill : tie.Need-mul-fill
-mul-fill c = omega (arith, fits (start (c .before .before)), c .before .before .fill .kept .0)
+mul-fill c = omega (arith, fits (start (filled (zeros c))), zeros c .fill .kept .0)
 
 sub-fill : tie.Need-sub-fill
-sub-fill c = omega (arith, fits (start (c .before .before)), c .before .before .fill .kept .0)
+sub-fill c = omega (arith, fits (start (filled (zeros c))), zeros c .fill .kept .0)
 
 part-fill-start : tie.Need-part-fill-start
-part-fill-start c = omega (arith, fits (start (c .before .before)), c .before .before .fill .kept .0)
+part-fill-start c = omega (arith, fits (start (filled (zeros c))), zeros c .fill .kept .0)
 
 part-fill-end : tie.Need-part-fill-end
 part-fill-end c = search needs
@@ -52,8 +55,9 @@ unfolding S
 returns c =
     let at-own = c .before .before in
     let own = at-own .fill2 in
-    let zero = zeros at-own .fill in
-    let from = start (zeros at-own) in
+    let at-zero = zeros (at-own .before .before) in
+    let zero = at-zero .fill in
+    let from = start (filled at-zero) in
     let a = from .args in (
       last-rows-at (a .rows .now) (zero .last .0) (own .last .0) (a .shape) (from .pre .0) (from .pre .1) (zero .ensures) (own .ensures),
       last-rows-parts (a .rows .now) (zero .last .0) (own .last .0) (a .shape) (from .pre .0) (from .pre .1) (zero .ensures) (own .ensures),

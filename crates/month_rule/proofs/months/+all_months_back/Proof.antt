@@ -46,17 +46,20 @@ Else1 t = all-months-back-lts.Else1 (claims t) (all-months-back-at t) all-months
 abbrev After-later : ℕ → Type 0
 After-later t = all-months-back-lts.After-all-months-back (claims t) (all-months-back-at t) all-months-back.Post
 
-abbrev After-first : ℕ → Type 0
-After-first t = all-months-back-lts.After-month-back (claims t) (all-months-back-at t) all-months-back.Post
+abbrev After-lent : ℕ → Type 0
+After-lent t = all-months-back-lts.After-all-months-back-arg2 (claims t) (all-months-back-at t) all-months-back.Post
+
+abbrev After-read : ℕ → Type 0
+After-read t = all-months-back-lts.After-shared-slice-known3 (claims t) (all-months-back-at t) all-months-back.Post
 
 abbrev start : (t : ℕ) → Else1 t → Start t
 start t c = c .before .before .before .before
 
-abbrev some-months : (t : ℕ) → After-later t → Else1 t
-some-months t c = c .before .before .before
+abbrev some-months : (t : ℕ) → After-lent t → Else1 t
+some-months t c = c .before .before
 
-abbrev later : (t : ℕ) → After-first t → After-later t
-later t c = c .before .before .before .before .before
+abbrev later : (t : ℕ) → After-read t → After-later t
+later t c = c .before .before .before .before
 
 -- what the contract requires, by name
 rows-known : (t : ℕ) (s : Start t) → RowsIn (s .args .shape) (s .args .rows .now)
@@ -111,7 +114,7 @@ all-months-back-part-all-months-back-end t c = omega (arith, fits t (c .before) 
 all-months-back-all-months-back-requires : (t : ℕ) → all-months-back-lts.Need-all-months-back-requires (claims t) (all-months-back-at t) all-months-back.Post
 unfolding gain
 all-months-back-all-months-back-requires t c κs =
-    let else1 = c .before .before in
+    let else1 = some-months t c in
     let from = start t else1 in
     let a = from .args in
     let n = length (a .chances .now) in
@@ -121,13 +124,13 @@ all-months-back-all-months-back-requires t c κs =
     (omega (arith, fewer, fits t else1 .some-month, from .pre .0), (rows-known t from, ((rw fewer (fits t else1 .levels), bias-known t from), terms)))
 
 all-months-back-shared-slice-read-month-back : (t : ℕ) → all-months-back-lts.Need-shared-slice-read-month-back (claims t) (all-months-back-at t) all-months-back.Post
-all-months-back-shared-slice-read-month-back t c = omega (arith, fits t (some-months t (c .before .before .before .before)) .some-month)
+all-months-back-shared-slice-read-month-back t c = omega (arith, fits t (some-months t (later t c .before)) .some-month)
 
 all-months-back-month-back-requires : (t : ℕ) → all-months-back-lts.Need-month-back-requires (claims t) (all-months-back-at t) all-months-back.Post
 unfolding gain
 all-months-back-month-back-requires t c κs =
-    let back = c .before .before .before .before in
-    let else1 = some-months t back in
+    let back = later t c in
+    let else1 = some-months t (back .before) in
     let from = start t else1 in
     let a = from .args in
     let terms : MonthTerms (a .severity .now) (getD (a .chances .now) 0 0) (a .bias) =
@@ -148,8 +151,9 @@ unfolding gain
 all-months-back-returns-2 t c =
     let at-first = c .before .before in
     let first = at-first .month-back in
-    let rest = later t at-first .all-months-back in
-    let else1 = some-months t (later t at-first) in
+    let at-rest = later t (at-first .before) in
+    let rest = at-rest .all-months-back in
+    let else1 = some-months t (at-rest .before) in
     let a = start t else1 .args in (
       rw (first-and-rest (a .chances .now) (fits t else1 .some-month))
           (taken-back-more (round-by (a .bias)) (a .severity .now) (a .shape) (a .opening) (getD (a .chances .now) 0 0) (take (length (a .chances .now) - 1) (drop 1 (a .chances .now)))

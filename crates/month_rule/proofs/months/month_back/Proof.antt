@@ -9,19 +9,19 @@ use Rattle.month_rule.proofs.months.month_back.Statement.{statement}
 use Rattle.month_rule.proofs.months.month_back.Tie as tie
 
 -- the places after the calls, each from the next
-abbrev forbidden : tie.After-all-rows-back → tie.After-forbid-rows
-forbidden c = c .before .before .before .before
+abbrev start : tie.After-forbid-rows-arg → tie.Start
+start c = c .before .before .before
 
-abbrev start : tie.After-forbid-rows → tie.Start
-start c = c .before .before .before .before
+abbrev forbidden : tie.After-all-rows-back-arg → tie.After-forbid-rows
+forbidden c = c .before .before .before
 
 forbid-rows-requires : tie.Need-forbid-rows-requires
-forbid-rows-requires c κs = let from = c .before .before .before in (from .pre .0, from .pre .1 .0 .inside)
+forbid-rows-requires c κs = (start c .pre .0, start c .pre .1 .0 .inside)
 
 all-rows-back-requires : tie.Need-all-rows-back-requires
 all-rows-back-requires c κs =
-    let clear = c .before .before .before in
-    let from = start clear in
+    let clear = forbidden c in
+    let from = start (clear .before) in
     (rows-in-again (from .args .shape) (from .args .rows .now) (clear .forbid-rows .last .0) (from .pre .0) (clear .forbid-rows .kept .0) (clear .forbid-rows .ensures .1), from .pre .1)
 
 same-length : tie.Need-same-length
@@ -32,8 +32,8 @@ unfolding rule-by
 returns c =
     let at-end = c .before .before in
     let back = at-end .all-rows-back in
-    let clear = forbidden at-end .forbid-rows in
-    let from = start (forbidden at-end) in
+    let clear = forbidden (at-end .before) .forbid-rows in
+    let from = start (forbidden (at-end .before) .before) in
     let a = from .args in
     let levels = forbidden-levels (a .shape) (a .top) (from .pre .1 .0 .inside) (a .rows .now) (clear .last .0) (clear .ensures .0) in (
       λ k l s m.

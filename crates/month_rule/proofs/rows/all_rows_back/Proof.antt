@@ -50,14 +50,14 @@ loop-holds c =
 abbrev start : tie.At-loop Inv-loop μ-loop → tie.Start Inv-loop μ-loop
 start c = c .before .before .before .before
 
-abbrev turn : tie.After-row-back Inv-loop μ-loop → tie.In-loop Inv-loop μ-loop
-turn c = c .before .before
+abbrev turn : tie.After-row-back-arg Inv-loop μ-loop → tie.In-loop Inv-loop μ-loop
+turn c = c .before
 
 abbrev ended : tie.After-own-sizes Inv-loop μ-loop → tie.After-loop Inv-loop μ-loop
 ended c = c .before
 
-abbrev sized : tie.After-row-back2 Inv-loop μ-loop → tie.After-own-sizes Inv-loop μ-loop
-sized c = c .before .before .before
+abbrev sized : tie.After-row-back-arg3 Inv-loop μ-loop → tie.After-own-sizes Inv-loop μ-loop
+sized c = c .before .before
 
 -- a row with claims left, and the next, lie within the rows
 fits :
@@ -93,9 +93,9 @@ add-next c = omega (arith, fits c)
 
 row-back-requires : tie.Need-row-back-requires Inv-loop μ-loop
 row-back-requires c κs =
-    let inv = c .before .before .loop .inv in
-    let from = start (c .before .before) in
-    ((omega arith, inv .levels, omega (arith, fits (c .before), inv .back .same-length)), (inv .back .parts, from .pre .1 .1))
+    let inv = turn c .before .loop .inv in
+    let from = start (turn c .before) in
+    ((omega arith, inv .levels, omega (arith, fits (turn c), inv .back .same-length)), (inv .back .parts, from .pre .1 .1))
 
 add-j : tie.Need-add-j Inv-loop μ-loop
 add-j c = omega arith
@@ -105,17 +105,17 @@ loop-less c = omega arith
 
 loop-again : tie.Need-loop-again Inv-loop μ-loop
 loop-again c =
-    let at-call = c .before .before in
-    let call = at-call .row-back in
-    let loop = turn at-call .before .loop in
-    let from = start (turn at-call .before) in
+    let call = c .before .before .row-back in
+    let at-turn = turn (c .before .before .before) in
+    let loop = at-turn .before .loop in
+    let from = start (at-turn .before) in
     let a = from .args in
     record {
-      within = omega (arith, turn at-call .loop-test .taken);
+      within = omega (arith, at-turn .loop-test .taken);
       levels = loop .inv .levels;
       back =
           going-back-turn _ (a .shape .width) (a .shape .tallied) (a .top) _ (loop .inv .levels) (from .pre .1 .0 .inside) (a .rows .now) (a .severity .now) (a .chance)
-          (a .bias) (loop .rows) (loop .j) (turn at-call .loop-test .taken) (loop .inv .back) (call .last .0) (call .kept .0) (call .ensures .1) (call .ensures .0);
+          (a .bias) (loop .rows) (loop .j) (at-turn .loop-test .taken) (loop .inv .back) (call .last .0) (call .kept .0) (call .ensures .1) (call .ensures .0);
     }
 
 mul-start-2 : tie.Need-mul-start-2 Inv-loop μ-loop
@@ -126,13 +126,13 @@ own-sizes-requires c κs = tt
 
 slice-aggregate-row-back : tie.Need-slice-aggregate-row-back Inv-loop μ-loop
 slice-aggregate-row-back c =
-    let at-sizes = c .before .before in
+    let at-sizes = sized c in
     let a = start (ended at-sizes .before) .args in
     simp length-take (omega (arith, at-sizes .own-sizes .ensures, own-sizes-le (a .shape .tallied) (length (a .severity .now))))
 
 row-back-requires-2 : tie.Need-row-back-requires-2 Inv-loop μ-loop
 row-back-requires-2 c κs =
-    let at-sizes = c .before .before in
+    let at-sizes = sized c in
     let inv = ended at-sizes .before .loop .inv in
     let from = start (ended at-sizes .before) in
     let own : MonthTerms _ (from .args .chance) (from .args .bias) =
@@ -145,18 +145,19 @@ row-back-requires-2 c κs =
 
 done :
     (c : tie.After-row-back2 Inv-loop μ-loop) →
-    let a = start (ended (sized c) .before) .args in
+    let a = start (ended (sized (c .before)) .before) .args in
     GoingBack (a .shape .rows - 1) (a .shape .width) (a .top + 1 - gain)
     (rows-before (a .bias) (a .severity .now) (a .chance) (a .shape .tallied) (rows-left (a .shape .rows - 1) (a .shape .width) (a .top) (a .rows .now)))
     (a .rows .now) (c .row-back2 .last .0) (a .shape .rows - 1 + 1)
 unfolding gain
 done c =
     let call = c .row-back2 in
-    let own = sized c .own-sizes in
-    let loop = ended (sized c) .before .loop in
-    let from = start (ended (sized c) .before) in
+    let at-sizes = sized (c .before) in
+    let own = at-sizes .own-sizes in
+    let loop = ended at-sizes .before .loop in
+    let from = start (ended at-sizes .before) in
     let a = from .args in
-    let here : loop .j ≡ a .shape .rows - 1 = omega (arith, loop .inv .within, ended (sized c) .loop-test .left) in
+    let here : loop .j ≡ a .shape .rows - 1 = omega (arith, loop .inv .within, ended at-sizes .loop-test .left) in
     going-back-end _ (a .shape .width) (a .shape .tallied) (a .top) _ (loop .inv .levels) (from .pre .1 .0 .inside) (a .rows .now) (a .severity .now) (a .chance) (a .bias)
     (loop .rows) (loop .j) here (loop .inv .back) (own .result) (own .ensures) (call .last .0) (call .kept .0) (call .ensures .1) (call .ensures .0)
 
@@ -168,8 +169,9 @@ returns : tie.Need-returns Inv-loop μ-loop
 unfolding gain
 returns c =
     let at-call = c .before .before in
-    let inv = ended (sized at-call) .before .loop .inv in
-    let from = start (ended (sized at-call) .before) in
+    let at-loop = ended (sized (at-call .before)) .before in
+    let inv = at-loop .loop .inv in
+    let from = start at-loop in
     let a = from .args in
     let whole : (k : ℕ) → k < a .shape .rows → k ≤ a .shape .rows - 1 = λ k l. omega arith in (
       (λ k l.

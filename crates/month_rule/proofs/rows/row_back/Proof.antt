@@ -61,58 +61,61 @@ part-claim-sum-start c = omega (arith, inside (c .before))
 part-claim-sum-end : tie.Need-part-claim-sum-end Inv-loop μ-loop
 part-claim-sum-end c = omega (arith, inside (c .before))
 
+abbrev turn : tie.After-claim-sum-arg Inv-loop μ-loop → tie.In-loop Inv-loop μ-loop
+turn c = c .before .before
+
 claim-sum-requires : tie.Need-claim-sum-requires Inv-loop μ-loop
 claim-sum-requires c κs =
-    let loop = at-loop (c .before .before) .loop in
-    let from = start (at-loop (c .before .before)) in
+    let loop = at-loop (turn c) .loop in
+    let from = start (at-loop (turn c)) in
     let next = from .args .claimed + loop .i + 1 in
     (parts-part (loop .rows) next (from .args .claimed + from .args .top - next) (loop .inv .1 .parts), from .pre .1 .1 .weights-fit)
 
-abbrev turn : tie.After-claim-sum Inv-loop μ-loop → tie.In-loop Inv-loop μ-loop
-turn c = c .before .before .before
+abbrev summed : tie.After-claim-sum Inv-loop μ-loop → tie.In-loop Inv-loop μ-loop
+summed c = turn (c .before)
 
 -- the claim sum of a turn is over the old row, and fits
 sum-is :
     (c : tie.After-claim-sum Inv-loop μ-loop) →
-    let a = start (at-loop (turn c)) .args in
-    c .claim-sum .result ≡ claim-sum (a .severity .now) (from-top (a .top) (drop (a .claimed) (a .rows .now))) (a .top - at-loop (turn c) .loop .i)
+    let a = start (at-loop (summed c)) .args in
+    c .claim-sum .result ≡ claim-sum (a .severity .now) (from-top (a .top) (drop (a .claimed) (a .rows .now))) (a .top - at-loop (summed c) .loop .i)
 sum-is c =
-    let from = start (at-loop (turn c)) in
+    let from = start (at-loop (summed c)) in
     let a = from .args in
-    let loop = at-loop (turn c) .loop in
+    let loop = at-loop (summed c) .loop in
     c .claim-sum .ensures
     ∙ sum-beyond (a .rows .now) (a .severity .now) (a .quiet) (a .claimed) (a .top) (a .live) (a .chance) (a .bias) (from .pre .0 .0) (from .pre .0 .1)
-    (loop .rows) (loop .i) (omega arith) (inside (turn c) .1) (loop .inv .1) _ _ refl refl
+    (loop .rows) (loop .i) (omega arith) (inside (summed c) .1) (loop .inv .1) _ _ refl refl
 
 sum-fits : (c : tie.After-claim-sum Inv-loop μ-loop) → c .claim-sum .result ≤ S * S
 sum-fits c =
-    let from = start (at-loop (turn c)) in
+    let from = start (at-loop (summed c)) in
     rw (sum-is c)
     (claim-sum-fits (from .args .severity .now) _ (from .pre .1 .1 .weights-fit) (λ s. rw getD-drop (from .pre .1 .0 .each _)) _)
 
 add-place : tie.Need-add-place Inv-loop μ-loop
-add-place c = omega (arith, inside (turn c))
+add-place c = omega (arith, inside (summed c))
 
 mul-month-value : tie.Need-mul-month-value Inv-loop μ-loop
-mul-month-value c = omega (arith, inside (turn c))
+mul-month-value c = omega (arith, inside (summed c))
 
 slice-read-month-value : tie.Need-slice-read-month-value Inv-loop μ-loop
-slice-read-month-value c = omega (arith, inside (turn (c .before)))
+slice-read-month-value c = omega (arith, inside (summed (c .before)))
 
 month-value-requires : tie.Need-month-value-requires Inv-loop μ-loop
 month-value-requires c κs =
-    let from = start (at-loop (turn (c .before))) in
-    let loop = at-loop (turn (c .before)) .loop in
+    let from = start (at-loop (summed (c .before))) in
+    let loop = at-loop (summed (c .before)) .loop in
     (from .pre .1 .1 .chance-fits, loop .inv .1 .parts .each _, sum-fits (c .before), from .pre .1 .1 .bias-fits)
 
 mul-rows : tie.Need-mul-rows Inv-loop μ-loop
-mul-rows c = omega (arith, inside (turn (c .before .before)))
+mul-rows c = omega (arith, inside (summed (c .before .before)))
 
 slice-write-rows : tie.Need-slice-write-rows Inv-loop μ-loop
-slice-write-rows c = omega (arith, inside (turn (c .before .before)))
+slice-write-rows c = omega (arith, inside (summed (c .before .before)))
 
 add-i : tie.Need-add-i Inv-loop μ-loop
-add-i c = omega (arith, inside (turn (c .before .before)))
+add-i c = omega (arith, inside (summed (c .before .before)))
 
 loop-less : tie.Need-loop-less Inv-loop μ-loop
 loop-less c = omega arith
@@ -120,11 +123,11 @@ loop-less c = omega arith
 loop-again : tie.Need-loop-again Inv-loop μ-loop
 loop-again c =
     let read = c .before .before in
-    let loop = at-loop (turn read) .loop in
-    let from = start (at-loop (turn read)) in
+    let loop = at-loop (summed read) .loop in
+    let from = start (at-loop (summed read)) in
     let a = from .args in (
       omega arith,
-      rewriting-turn (a .rows .now) (a .quiet) _ (loop .rows) (loop .i) (c .month-value .result) (loop .inv .1) (omega (arith, inside (turn read)))
+      rewriting-turn (a .rows .now) (a .quiet) _ (loop .rows) (loop .i) (c .month-value .result) (loop .inv .1) (omega (arith, inside (summed read)))
           (c .month-value .ensures
           ∙ value-before (a .rows .now) (a .severity .now) (a .quiet) (a .claimed) (a .top) (a .live) (a .chance) (a .bias) (from .pre .0 .0) (from .pre .0 .1)
           (loop .i) _ (read .claim-sum .result) (omega arith) (loop .inv .1 .so-far .later _ (omega arith)) (sum-is read))
