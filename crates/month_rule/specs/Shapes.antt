@@ -47,8 +47,8 @@ rule-by shape = record { after-claim = after-claim-by (shape .tallied); allowed 
 abbrev pub allowed-places : Shape → ℕ → ℕ → Bool
 allowed-places shape top = between (top + 1 - shape .above) (top + 1 - shape .low)
 
--- What months leave beyond the place of level 0 of a row: with no months what lay there, and otherwise what the first month has read at the levels
--- below its gain, from which it rewrites no place, and 0 beyond those.
+-- What months leave beyond the place of level 0 of a row: with no months what lay there. Otherwise the values after the first month at the levels below
+-- its gain, 0 where forbidden, since that month has no value to put in their places; and 0 beyond those.
 unfoldable pub beyond-opening : Rounding → List ℕ → Shape → ℕ → List ℕ → List ℕ → ℕ → Row
 beyond-opening round severity shape opening [] before k i = at (row-with shape before k) i
 beyond-opening round severity shape opening (P ∷ later) before k i =
