@@ -1,16 +1,16 @@
-//! Document 01 as a plain Rust program: plan bytes on standard input, the reserve report on standard output.
+//! Documents 01 and 02 as a plain Rust program: plan bytes on standard input, the reserve report on standard output.
 //!
 //!   rustc -O docs/src/baseline.rs -o OUT
 //!
-//! Written from document 01 alone, not from the engine or its definitions. It has the rows and the order of work of the document: two rows of
+//! Written from these documents alone, not from the engine or its definitions. It has the rows and the order of work of document 01: two rows of
 //! u + n + 1 numbers for a question, k + 1 times that for both k, each replaced in place month by month, from the highest level down.
 use std::fmt::Write as _;
 use std::io::{self, Read, Write as _};
 
 const S: u64 = 1 << 30;
-const MONTHS: usize = 60;
+const MONTHS: usize = 120;
 const OPENING: usize = 200;
-const SIZES: usize = 260;
+const SIZES: usize = 320;
 const CLAIMS: usize = 24;
 
 /// The widths in bits of n, u and m, and of each number of the row.

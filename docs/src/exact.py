@@ -1,10 +1,11 @@
-"""Exact chances on small plans, in two ways that use nothing of the month rule: every history listed, and the published recursions.
+"""Exact chances, in three ways that use nothing of the month rule: every history listed, and the published recursions, on small plans; on long
+ones the histories carried forward together that have come to the same level.
 
 Written from document 01 and source document 000 alone.
 """
 import itertools
 import math
-from collections import namedtuple
+from collections import Counter, namedtuple
 from fractions import Fraction
 
 from rules import S
@@ -16,9 +17,12 @@ NO_CLAIM, TAIL = 0, math.inf  # a month's event is one of these (TAIL is an over
 Outcome = namedtuple("Outcome", "weight path claims")  # of a history; the path is U_1 to U_n
 
 
+def events(plan):
+    return [NO_CLAIM, *range(1, len(plan.weights) + 1), TAIL]
+
+
 def histories(plan):
-    events = [NO_CLAIM, *range(1, len(plan.weights) + 1), TAIL]
-    return itertools.product(events, repeat=len(plan.chances))
+    return itertools.product(events(plan), repeat=len(plan.chances))
 
 
 def month_weight(plan, chance, event):
@@ -41,17 +45,19 @@ def outcomes(plan):
     return [outcome(plan, history) for history in histories(plan)]
 
 
+def level_kept(question, level):
+    """Whether a month may end at this level."""
+    if question.word == "high":
+        return 0 < level <= question.number
+    if question.word == "low":
+        return 0 < level and level >= question.number
+    return 0 < level
+
+
 def keeps(question, one):
     """Whether the outcome keeps the question's condition. U_0 does not count."""
-    if any(level <= 0 for level in one.path):
-        return False
-    if question.word == "both":
-        return one.claims == question.number
-    if question.word == "high":
-        return all(level <= question.number for level in one.path)
-    if question.word == "low":
-        return all(level >= question.number for level in one.path)
-    return True
+    placed = question.word != "both" or one.claims == question.number
+    return placed and all(level_kept(question, level) for level in one.path)
 
 
 def question_weight(listed, question):
@@ -62,6 +68,39 @@ def question_weight(listed, question):
 def count_weight(listed, k):
     """Exactly k claims, ruin or not."""
     return sum(one.weight for one in listed if one.claims == k)
+
+
+# ---- The same weights on plans whose histories are too many to list
+
+
+def carried(plan, first, following):
+    """The weights of the histories by the state that they come to; `following` gives the state after an event, None where a history is dropped."""
+    weights = Counter({first: 1})
+    for chance in plan.chances:
+        after = Counter()
+        for state, weight in weights.items():
+            for event in events(plan):
+                after[following(state, event)] += weight * month_weight(plan, chance, event)
+        del after[None]
+        weights = after
+    return weights
+
+
+def carried_weight(plan, question):
+    """W, from the levels and, for both, the claims that can still be the number asked."""
+    tallied = question.word == "both"
+
+    def following(state, event):
+        level, claims = state[0] + 1 - event, state[1] + (tallied and event != NO_CLAIM)
+        return (level, claims) if level_kept(question, level) and claims <= question.number else None
+
+    weights = carried(plan, (plan.head.opening, 0), following)
+    return sum(weight for (_, claims), weight in weights.items() if not tallied or claims == question.number)
+
+
+def carried_counts(plan):
+    """The weights of exactly k claims, by k."""
+    return carried(plan, 0, lambda claims, event: claims + (event != NO_CLAIM))
 
 
 # ---- Enclosure and gap rule

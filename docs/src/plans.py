@@ -97,6 +97,11 @@ def some_plan(rng, n, u, m):
     return head, chances + split(rng, m, rng.choice([0, 2, 7])) + [0]
 
 
+def lasting_plan(rng, n, u, m):
+    """No size empty, and claims so rare that the fund gains more than it pays."""
+    return Head(n, u, m), [rng.randrange(S // m) for _ in range(n)] + split(rng, m, 0) + [0]
+
+
 def geometric(m):
     """The weights of source document 000, (4.2), with alpha = 3/4: rounded down, and over is what is missing."""
     weights = [S * 3 ** (x - 1) // 4**x for x in range(1, m + 1)]

@@ -11,15 +11,17 @@ bytes of `write` in hexadecimal and otherwise a checksum.
 """
 import itertools
 
-from rules import CLAIMS, HEAD_BYTES, LARGEST, PLACES, Head, Question, ask_checks, bounds, count_row, down, plan_checks, plan_of
+from rules import HEAD_BYTES, LARGEST, MOST_ASKED, PLACES, Head, ask_checks, bounds, count_row, down, plan_checks, plan_of
 from rules import read_bytes, read_checks, refusal, row_length, up, workspace_needed, write_bytes, write_checks
 
 KINDS = ["row", "survive", "both", "high", "low", "count", "write", "read"]
 FULL_NUMBER = 2**32 - 1  # the largest number that a row or a workspace can hold
 
-# The program's capacities: ROW and BYTES of crates/vectors/src/record.rt, ROOM of calls.rt. It passes over a record that needs more.
-ROW, BYTES = 400, 2560
-ROOM = workspace_needed(LARGEST, Question("both", CLAIMS)) + 6
+# The room that the program lends, as in crates/vectors/src/rooms.rt. It passes over a record that needs more.
+SPARE = 6  # numbers more than any call needs
+ROW = row_length(LARGEST) + SPARE
+WORKSPACE = workspace_needed(LARGEST, MOST_ASKED) + SPARE
+BYTES = 2560
 
 
 def plan_list(plans):
@@ -62,7 +64,7 @@ class Calls:
         needed = workspace_needed(head, question)
         room = needed if room is None else room
         self.use(row)
-        self.record(question.word, head, question.number, fitting(room, ROOM), fill)
+        self.record(question.word, head, question.number, fitting(room, WORKSPACE), fill)
         number = refusal(ask_checks(head, row, question, room))
         low, high = (0, 0) if number else bounds(plan_of(head, row), question)
         after = [fill] * room if number else [0] * needed + [fill] * (room - needed)

@@ -1,7 +1,7 @@
 #!/usr/bin/env python3
-"""Document 01 as a plain program: the expected values of the tests come from here.
+"""Documents 01 and 02 as a plain program: the expected values of the tests come from here.
 
-Written from document 01 and its source documents alone, not from the engine or its definitions.
+Written from these documents and their sources alone, not from the engine or its definitions.
 
   reference.py selftest           hold the rules against exact arithmetic on small plans and the funds worked by hand
   reference.py report             plan bytes on standard input, the reserve report on standard output

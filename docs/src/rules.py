@@ -1,6 +1,6 @@
-"""Document 01's rules: plans and plan bytes, what is turned away, the month rule, the count row, the report.
+"""The rules of documents 01 and 02: plans and plan bytes, what is turned away, the month rule, the count row, the report.
 
-Written from document 01 and its source documents alone, not from the engine or its definitions.
+Written from these documents and their sources alone, not from the engine or its definitions.
 """
 import math
 from collections import namedtuple
@@ -9,8 +9,7 @@ from itertools import accumulate, pairwise
 from operator import mul
 
 S = 2**30
-MONTHS, OPENING, SIZES, CLAIMS, LEVEL = 60, 200, 260, 24, 260  # the limits of n, u, m, of k in both, of L in high and low
-LONGEST = 1247  # "The longest plan is 1,247 bytes": the paper's figure, to which the self-test holds byte_length
+MONTHS, OPENING, SIZES, CLAIMS, LEVEL = 120, 200, 320, 24, 320  # the limits of n, u, m, of k in both, of L in high and low
 PLACES = MONTHS + 1  # of the count row
 
 Head = namedtuple("Head", "months opening sizes")
@@ -18,6 +17,7 @@ Plan = namedtuple("Plan", "head chances weights tail")  # the tail is the paper'
 Question = namedtuple("Question", "word number")
 
 LARGEST = Head(MONTHS, OPENING, SIZES)
+MOST_ASKED = Question("both", CLAIMS)  # what needs the largest workspace
 SURVIVE = Question("survive", 0)
 MOST = {"survive": math.inf, "both": CLAIMS, "high": LEVEL, "low": LEVEL}  # the largest number of a question
 

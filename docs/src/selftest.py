@@ -3,9 +3,11 @@ import math
 import random
 from fractions import Fraction
 
-from exact import claim_chance, count_weight, encloses, first_claim_both, first_claim_survival, keeps_gap, outcomes, question_weight
-from plans import EXAMPLE, EXAMPLE_BYTES, EXAMPLE_TEXT, WORKED, questions, some_plan
-from rules import LARGEST, LONGEST, S, SURVIVE, ask_checks, bounds, byte_length, count_row, down, largest_level, month_rule, plan_of
+from exact import carried_counts, carried_weight, claim_chance, count_weight, encloses, first_claim_both, first_claim_survival, keeps_gap
+from exact import outcomes, question_weight
+from plans import EXAMPLE, EXAMPLE_BYTES, EXAMPLE_TEXT, WORKED, lasting_plan, questions, some_plan
+from rules import CLAIMS, LARGEST, MONTHS, MOST_ASKED, PLACES, S, SURVIVE, Question, ask_checks, bounds, byte_length, count_row, down
+from rules import largest_level, month_rule, plan_of
 from rules import read_bytes, refusal, report, unrounded, up, workspace_needed, write_bytes
 
 
@@ -36,6 +38,7 @@ def check_question(tally, plan, listed, question):
     weight, whole = question_weight(listed, question), S ** (2 * len(plan.chances))
     p, f = [Fraction(chance, S) for chance in plan.chances], claim_chance(plan)
     check_bounds(tally, "questions", plan, weight, bounds(plan, question), about)
+    tally.check("histories carried together weigh W", carried_weight(plan, question) == weight, about)
     tally.check("unrounded month rule is W", month_rule(plan, question, unrounded) * whole == weight * S, about)
     if question.word == "survive":
         tally.check("Theorem 2.1 is W", first_claim_survival(p, f, opening) * whole == weight, about)
@@ -46,8 +49,10 @@ def check_question(tally, plan, listed, question):
 def check_count_row(tally, plan, listed):
     whole = S ** (2 * len(plan.chances))
     rows = [count_row(plan, divide) for divide in (down, up, unrounded)]
+    counts = carried_counts(plan)
     for k, (lower, upper, value) in enumerate(zip(*rows)):
         weight = count_weight(listed, k)
+        tally.check("histories carried together weigh W", counts[k] == weight, (plan, k))
         check_bounds(tally, "count row", plan, weight, (lower, upper), (plan, k))
         tally.check("unrounded count row is W", value * whole == weight * S, (plan, k))
 
@@ -61,15 +66,29 @@ def check_plan(tally, plan):
     check_count_row(tally, plan, listed)
 
 
+def check_long_plan(tally, plan):
+    """A plan of as many months as there can be."""
+    top = largest_level(plan.head)
+    levels = (Question(word, level) for word in ("high", "low") for level in (1, 2, plan.head.opening, top // 2, top - 1))
+    for question in (SURVIVE, Question("both", 1), Question("both", CLAIMS), *levels):
+        check_bounds(tally, "long plans", plan, carried_weight(plan, question), bounds(plan, question), (plan, question))
+    counts = carried_counts(plan)
+    for k, pair in enumerate(zip(count_row(plan, down), count_row(plan, up))):
+        check_bounds(tally, "long plans, count row", plan, counts[k], pair, (plan, k))
+
+
 def check_paper(tally):
-    """What document 01 gives in figures."""
+    """What documents 01 and 02 give in figures."""
     for head, row, question, number, lower, upper in WORKED:
         got = refusal(ask_checks(head, row, question, workspace_needed(head, question)))
         answer = (0, 0) if got else bounds(plan_of(head, row), question)
         tally.check("funds worked by hand", got == number and (lower is None or answer == (lower, upper)), (head, row, question))
     tally.check("report example: bytes", write_bytes(*EXAMPLE) == EXAMPLE_BYTES, EXAMPLE_BYTES.hex())
     tally.check("report example: text", report(EXAMPLE_BYTES) == EXAMPLE_TEXT, report(EXAMPLE_BYTES))
-    tally.check("longest plan", byte_length(LARGEST) == LONGEST, f"{LONGEST} bytes")
+    tally.check("count row", PLACES == 121, f"{PLACES} places")
+    tally.check("longest plan", byte_length(LARGEST) == 1712, f"{byte_length(LARGEST)} bytes")
+    largest = 4 * workspace_needed(LARGEST, MOST_ASKED)
+    tally.check("largest workspace", largest == 64200, f"{largest} bytes")
 
 
 def selftest():
@@ -81,5 +100,7 @@ def selftest():
         tally.check("accepted", refusal(ask_checks(head, row, SURVIVE, math.inf)) == 0, (head, row))
         tally.check("bytes there and back", read_bytes(write_bytes(head, row))[:2] == (head, row), (head, row))
         check_plan(tally, plan_of(head, row))
+    for u, m in ((0, 2), (3, 5), (7, 1)):
+        check_long_plan(tally, plan_of(*lasting_plan(rng, MONTHS, u, m)))
     tally.print()
     return bool(tally.failed)

@@ -7,11 +7,8 @@ use native.Mathlib.Omega.{arith}
 use lib.Dec.{lit<}
 use lib.ListN.{length, getD, replicate, List·getD-eq-default, length-append, length-replicate}
 use Rattle.model.specs.declared.Head.{Head}
-use Rattle.model.specs.Limits.{max-months, max-sizes}
 use Rattle.model.specs.Plan.{row-length}
 use Rattle.model.specs.Format.{bits, head-bits, plan-bits, bits-of, bit-length, byte-length, head-of, fill-of, filled-bits}
-use Rattle.model.specs.Refusal.{HeadAccepted}
-use Rattle.model.proofs.Facts.{head-facts}
 use Rattle.codec.proofs.Fields.{Bits, bits-bits, bits-flat, bits-append, bits-drop}
 use Rattle.codec.proofs.Fields.{length-bits, length-flat, field-digit, after-field, flat-digit}
 
@@ -98,16 +95,3 @@ module _ (h : Head) (row : List ℕ) where
 
   pub bits-filled : Bits (filled-bits h row)
   bits-filled = record { bit = λ i. rw (filled-at i) (bits-plan h row .bit i) }
-
--- "The longest plan is 1,247 bytes."
-abbrev pub longest : ℕ
-longest = 1247
-
-pub byte-length-fits : (h : Head) → HeadAccepted h → byte-length h ≤ longest
-unfolding byte-length bit-length head-bits
-byte-length-fits h accepted = omega (arith, head-facts h accepted)
-
--- and the largest plan has that many
-pub byte-length-largest : (u : ℕ) → byte-length (record { months = max-months; opening = u; sizes = max-sizes }) ≡ longest
-unfolding byte-length bit-length head-bits
-byte-length-largest u = refl

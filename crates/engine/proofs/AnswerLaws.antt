@@ -20,13 +20,14 @@ use Rattle.model.specs.MonthRule.{month, value, values, all-placed}
 use Rattle.model.specs.Bounds.{Encloses, bound, lower, upper}
 use Rattle.model.specs.Refusal.{plan-refusal, outside, rows-needed, workspace-needed, ask-refusal}
 use Rattle.model.proofs.Facts.{Facts}
+use Rattle.model.proofs.Rooms.{rows-few}
 use Rattle.engine.specs.declared.Answer.{Answer}
 use Rattle.month_rule.specs.Rows.{Parts}
 use Rattle.month_rule.specs.Shapes.{rows-size, rule-by}
 use Rattle.month_rule.proofs.RowLaws.{parts-part}
 use Rattle.engine.specs.Questions.{shape-of}
 use Rattle.engine.specs.Answers.{answer, workspace-after}
-use Rattle.engine.proofs.AskLaws.{ask-refusal-is, shape-rows, shape-width, rows-few, shape-value}
+use Rattle.engine.proofs.AskLaws.{ask-refusal-is, shape-rows, shape-width, shape-value}
 
 -- what is known of an ask that is not refused
 pub record Asked (a : Ask) (row : List ℕ) (room : ℕ) : Type 0 where

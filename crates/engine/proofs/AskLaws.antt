@@ -5,20 +5,18 @@ use mathlib.Core.Bool.{Bool, true, false, _&&_, cond}
 use mathlib.Core.List.{List, [], _∷_}
 use mathlib.Core.Option.{some}
 use Prim.Native.Nat.{ℕ, zero, suc, _+_, _*_, _-_, _≤_, zero-le, _<_}
-use native.Mathlib.Nat.{mul-le-mul}
 use native.Mathlib.Omega.{arith}
 use lib.Dec.{leb, ltb, eqb}
 use lib.ListN.{length}
-use borrow.Author.Tests.{le-leb, lt-leb, lt-ltb, le-ltb, ltb-false}
+use borrow.Author.Tests.{le-leb, lt-leb, lt-ltb, le-ltb}
 use Rattle.model.specs.declared.Ask.{Ask}
 use Rattle.model.specs.declared.Question.{Question}
 use Rattle.model.specs.declared.Question.the-variants.{Survive, Both, High, Low}
-use Rattle.model.specs.Limits.{max-claims, level-room, workspace-room}
 use Rattle.model.specs.Levels.{largest-level, row-levels}
 use Rattle.model.specs.Scale.{S, Rounding}
 use Rattle.model.specs.MonthRule.{Row, month, values, rule-of, last-of, claims-of, claimed-row, all-placed, one-fewer}
 use Rattle.model.specs.Refusal.{first, plan-refusal, outside, rows-needed, workspace-needed, ask-refusal}
-use Rattle.model.proofs.Facts.{HeadFacts, plan-first}
+use Rattle.model.proofs.Facts.{plan-first}
 use Rattle.month_rule.specs.Rows.{between, after-claim-by}
 use Rattle.month_rule.specs.Shapes.{rule-by}
 use Rattle.month_rule.proofs.ValueLaws.{below-or-not}
@@ -48,20 +46,6 @@ shape-width Survive width = refl
 shape-width (Both k) width = refl
 shape-width (High L) width = refl
 shape-width (Low L) width = refl
-
-pub rows-few : (q : Question) → outside q ≡ false → (0 < rows-needed q) × (rows-needed q ≤ max-claims + 1)
-unfolding outside rows-needed
-rows-few Survive e = omega arith
-rows-few (Both k) e = omega (arith, ltb-false max-claims k e)
-rows-few (High L) e = omega arith
-rows-few (Low L) e = omega arith
-
--- the workspace of the largest plan and question
-pub workspace-fits : (a : Ask) → HeadFacts (a .head) → outside (a .question) ≡ false → workspace-needed a ≤ workspace-room
-unfolding workspace-needed
-workspace-fits a h e =
-    let width : 2 * row-levels (a .head .opening) (a .head .months) ≤ 2 * level-room = omega (arith, h .span-fits) in
-    mul-le-mul width (rows-few (a .question) e .1)
 
 -- the claims to place are those of the last row
 claims-last : (q : Question) (width : ℕ) → claims-of q ≡ shape-of q width .rows - 1

@@ -35,7 +35,7 @@ unfoldable pub workspace-after : Ask → List ℕ → List ℕ → List ℕ
 workspace-after a row workspace =
     cond (eqb (ask-refusal a row (length workspace)) 0) (replicate (workspace-needed a) 0 ++ drop (workspace-needed a) workspace) workspace
 
--- "a row of 61 lower and a row of 61 upper bounds for k = 0 to 60"
+-- "It comes back whole, as a row of … lower and a row of … upper bounds"
 unfoldable pub count-rows : List ℕ → CountRow
 count-rows chances =
     record { lower = tabulate places (count-row down chances); upper = tabulate places (count-row up chances) }

@@ -2,6 +2,7 @@
 pub mod SumLaws
 pub mod LevelLaws
 pub mod Facts
+pub mod Rooms
 pub mod Month
 pub mod Values
 pub mod Histories

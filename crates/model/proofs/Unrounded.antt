@@ -1,6 +1,6 @@
 -- The unrounded month rule is the weight of the histories that keep the condition: once for all questions, from what a question asks of the
 -- surplus in each month and of the number of claims.
-use mathlib.Core.Path.{_≡_, refl, _∙_, fun-ext}
+use mathlib.Core.Path.{_≡_, refl, ap, _∙_, fun-ext}
 use mathlib.Core.Bool.{Bool, true, false, cond, _&&_}
 use mathlib.Core.List.{List, [], _∷_}
 use mathlib.Core.Option.{Option, none, some}
@@ -81,7 +81,7 @@ module _ (q : Rule) (last : ℕ → Row) (T : Surplus → Bool) (E : ℕ → His
 
   holds-tail : (k s : ℕ) (h : History) → holds T E k s (tail-claim ∷ h) ≡ false
   unfolding holds all surplus-path next-surplus at-least
-  holds-tail k s h = rw (reads .ruined lost refl)
+  holds-tail k s h = ap (λ (b : Bool). (b && all T (surplus-path lost h)) && E k (tail-claim ∷ h)) (reads .ruined lost refl)
 
   holds-ruin : (k s i : ℕ) → s + gain ≤ suc i → (h : History) → holds T E k s (claim (suc i) ∷ h) ≡ false
   unfolding holds all surplus-path

@@ -6,8 +6,9 @@ use mathlib.Core.Option.{Option, none, some}
 use Prim.Native.Nat.{ℕ, zero, suc, _+_, _*_, _^_, _≤_}
 use native.Mathlib.Nat.{pow-zero, mul-assoc, one-mul, zero-mul, zero-add, le-refl}
 use native.Mathlib.Omega.{arith}
-use lib.Dec.{leb·suc-suc, leb·zero}
+use lib.Dec.{ltb}
 use lib.ListN.{length, getD}
+use borrow.Author.Tests.{lt-ltb}
 use Rattle.model.specs.declared.Question.{Question}
 use Rattle.model.specs.declared.Question.the-variants.{Survive, Both, High, Low}
 use Rattle.model.specs.Scale.{S, Rounding, down, up}
@@ -100,9 +101,13 @@ pub live-months-idle : (Ps : List ℕ) → live-months (0 ∷ Ps) ≡ live-month
 unfolding live-months count
 live-months-idle Ps = zero-add _
 
+count-more : (test : ℕ → Bool) (x : ℕ) (xs : List ℕ) → test x ≡ true → count test (x ∷ xs) ≡ 1 + count test xs
+unfolding count
+count-more test x xs e = rw e
+
 pub live-months-live : (P : ℕ) (Ps : List ℕ) → live-months (suc P ∷ Ps) ≡ 1 + live-months Ps
-unfolding live-months count
-live-months-live P Ps = rw (leb·suc-suc 0 P, leb·zero P)
+unfolding live-months
+live-months-live P Ps = count-more (λ chance. ltb 0 chance) (suc P) Ps (lt-ltb 0 (suc P) (omega arith))
 
 -- The two bounds are apart by at most the gap of their last rows and the allowance of the months with a chance above 0.
 pub values-gap :

@@ -12,4 +12,5 @@ pub mod FirstClaim
 pub mod Bounds
 pub mod Format
 pub mod Refusal
+pub mod Figures
 pub mod Funds

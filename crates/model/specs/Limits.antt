@@ -1,28 +1,28 @@
--- The limits of document 01, and the rooms that follow from them, for the definitions; src/limits.rt has them for the code, and the proofs hold
--- the two equal.
+-- The limits of documents 01 and 02, and the rooms that follow from them, for the definitions; src/limits.rt has them for the code, and the
+-- proofs hold the two equal.
 use Prim.Native.Nat.{ℕ, _+_, _*_}
 
--- "months n (0 to 60)"
+-- "Months go up to 120"
 abbrev pub max-months : ℕ
-max-months = 60
+max-months = 120
 
 -- "opening u (0 to 200)"
 abbrev pub max-opening : ℕ
 max-opening = 200
 
--- "sizes m (1 to 260)"
+-- "sizes up to 320"
 abbrev pub max-sizes : ℕ
-max-sizes = 260
+max-sizes = 320
 
 -- "both k (0 to 24)"
 abbrev pub max-claims : ℕ
 max-claims = 24
 
--- "high L (0 to 260)", "low L (0 to 260)"
+-- "L in high and low up to 320"
 abbrev pub max-level : ℕ
-max-level = 260
+max-level = 320
 
--- "a row of 61 lower and a row of 61 upper bounds": one place for each number of claims from 0 to the longest plan's
+-- "The count row has 121 places": one for each number of claims from 0 to the longest plan's
 abbrev pub places : ℕ
 places = max-months + 1
 

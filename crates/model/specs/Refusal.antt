@@ -52,7 +52,7 @@ number-checks h row =
     p : Plan
     p = plan-of h row
 
--- "k above 24 or L above 260"
+-- 10 question: k or L above its limit
 unfoldable pub outside : Question → Bool
 outside Survive = false
 outside (Both k) = ltb max-claims k

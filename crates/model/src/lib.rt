@@ -1,4 +1,4 @@
-// What a plan and a question are in memory, and the limits of document 01.
+// What a plan and a question are in memory, and their limits.
 pub mod limits;
 
 // S: chances, weights and bounds count in parts of it.

@@ -1,14 +1,14 @@
-// The limits of document 01, and the rooms that follow from them, for the code; specs/Limits.antt has them for the definitions, and the proofs
+// The limits of documents 01 and 02, and the rooms that follow from them, for the code; specs/Limits.antt has them for the definitions, and the proofs
 // hold the two equal.
-pub const MONTHS: usize = 60;
+pub const MONTHS: usize = 120;
 
 pub const OPENING: usize = 200;
 
-pub const SIZES: usize = 260;
+pub const SIZES: usize = 320;
 
 pub const CLAIMS: usize = 24;
 
-pub const LEVEL: usize = 260;
+pub const LEVEL: usize = 320;
 
 pub const PLACES: usize = MONTHS + 1;
 

@@ -15,9 +15,10 @@ use Rattle.model.specs.Limits.{workspace-room}
 use Rattle.model.specs.Plan.{plan-of}
 use Rattle.model.specs.Bounds.{lower, upper}
 use Rattle.model.specs.Refusal.{outside, workspace-needed, ask-refusal}
-use Rattle.model.proofs.Facts.{head-facts, accepted-head}
+use Rattle.model.proofs.Facts.{accepted-head}
+use Rattle.model.proofs.Rooms.{workspace-fits}
 use Rattle.engine.specs.Answers.{answer, workspace-after}
-use Rattle.engine.proofs.AskLaws.{workspace-fits, ask-refusal-is}
+use Rattle.engine.proofs.AskLaws.{ask-refusal-is}
 use Rattle.report.specs.Asking.{Answerable, zero-first, workspace-left, Cleared}
 
 -- no question asked
@@ -55,7 +56,7 @@ module _ {h : Head} {row ws : List ℕ} (a : Answerable h row ws) (q : Question)
   ask = record { head = h; question = q }
 
   needed-fits : workspace-needed ask ≤ workspace-room
-  needed-fits = workspace-fits ask (head-facts h (accepted-head h row (a .accepted))) within
+  needed-fits = workspace-fits ask (accepted-head h row (a .accepted)) within
 
   not-refused : ask-refusal ask row (length ws) ≡ 0
   not-refused =

@@ -23,7 +23,7 @@ ghost use Rattle.report.specs.Text.{Appended};
 ghost use Rattle.report.specs.Asking.{Answerable, Cleared};
 ghost use Rattle.report.specs.Report.{text-room, refused-line, plan-report, ReportRoom, report-of};
 
-// Room for every report: the longest is below 39,000 bytes.
+// Room for every report: the proof of `report` fails where it is less than `text-room`.
 pub const TEXT: usize = 65536;
 
 // Writes the report on a plan's bytes to the start of the text, past which nothing changes, and answers how long it is. `within` is for a

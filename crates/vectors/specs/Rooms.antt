@@ -1,13 +1,17 @@
--- The room that the program lends, for the contracts; src/record.rt and src/calls.rt have it for the code, and the proofs hold the two equal.
+-- The room that the program lends, for the contracts; src/rooms.rt has it for the code, and the proofs hold the two equal.
 use Prim.Native.Nat.{ℕ, _+_}
 use mathlib.Core.Bool.{_||_, cond}
 use lib.Dec.{ltb, eqb}
-use Rattle.model.specs.Limits.{workspace-room}
+use Rattle.model.specs.Limits.{row-room, workspace-room}
 use Rattle.vectors.specs.declared.record.Record.{Record}
+
+-- numbers more than any call needs
+abbrev spare : ℕ
+spare = 6
 
 -- the most numbers of a row that a record may bring
 abbrev pub row-capacity : ℕ
-row-capacity = 400
+row-capacity = row-room + spare
 
 -- the length of the row in use after a record that brings one: 0 where there is no room for it
 unfoldable pub row-used : ℕ → ℕ → ℕ
@@ -17,9 +21,9 @@ row-used count room = cond (ltb row-capacity count || ltb room count) 0 count
 abbrev pub byte-capacity : ℕ
 byte-capacity = 2560
 
--- the largest workspace, and a few numbers more
+-- the most numbers of a workspace that a record may ask for
 abbrev pub workspace-capacity : ℕ
-workspace-capacity = workspace-room + 6
+workspace-capacity = workspace-room + spare
 
 -- the length of the row in use after any record: another than a row's, of kind 0, leaves it
 unfoldable pub used-after : Record → ℕ → ℕ → ℕ

@@ -4,14 +4,11 @@ ghost use lib.ListN.{length, replicate};
 ghost use Rattle.vectors.specs.Rooms.{workspace-capacity};
 use crate::format;
 use crate::record::Record;
+use crate::rooms;
 use crate::text;
 use model::Ask;
 use model::Head;
 use model::Question;
-use model::limits;
-
-// The largest workspace, that of both 24, and a few numbers more.
-const ROOM: usize = limits::WORKSPACE + 6;
 
 pub fn call(record: Record, row: &[u32]) {
     let kind = record.kind;
@@ -33,17 +30,17 @@ fn ask(record: Record, question: Question, row: &[u32]) {
     let room = record.room;
     let fill = record.fill;
     let mut workspace = workspace(fill);
-    if room <= ROOM {
+    if room <= rooms::WORKSPACE {
         ask_in(Ask { head, question }, row, &mut workspace[..room]);
     }
 }
 
 // The second `ensures` gives the length, which lending a part of the array needs.
-fn workspace(fill: u32) -> [u32; ROOM]
+fn workspace(fill: u32) -> [u32; rooms::WORKSPACE]
     ensures filled { λ r. ⌜ r ≡ replicate workspace-capacity fill ⌝ }
     ensures sized { λ r. ⌜ workspace-capacity ≡ length r ⌝ }
 {
-    [fill; ROOM]
+    [fill; rooms::WORKSPACE]
 }
 
 fn ask_in(ask: Ask, row: &[u32], workspace: &mut [u32]) {

@@ -1,6 +1,7 @@
 // Reading and writing plan bytes, each with its line.
 use crate::record;
 use crate::record::Record;
+use crate::rooms;
 use crate::text;
 use model::Head;
 
@@ -9,7 +10,7 @@ pub fn write(record: Record, row: &[u32]) {
     let room = record.room;
     let fill = record.fill_byte;
     let mut bytes = record::bytes(fill);
-    if room <= record::BYTES {
+    if room <= rooms::BYTES {
         write_into(head, row, &mut bytes[..room]);
     }
 }
@@ -25,7 +26,7 @@ fn write_into(head: Head, row: &[u32], bytes: &mut [u8]) {
 pub fn read(record: Record) {
     let length = record.length;
     let mut bytes = record::bytes(0);
-    if length <= record::BYTES {
+    if length <= rooms::BYTES {
         read_from(record, &mut bytes[..length]);
     }
 }
@@ -36,7 +37,7 @@ fn read_from(record: Record, bytes: &mut [u8]) {
     let room = record.room;
     let fill = record.fill;
     let mut row = record::row(fill);
-    if room <= record::ROW {
+    if room <= rooms::ROW {
         read_into(bytes, &mut row[..room]);
     }
 }

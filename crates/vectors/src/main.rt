@@ -3,6 +3,7 @@
 mod calls;
 mod format;
 mod record;
+mod rooms;
 mod text;
 
 ghost use mathlib.Core.Path.{_≡_};

@@ -4,13 +4,9 @@ ghost use Prim.Native.Nat.{_+_, _*_, _≤_};
 ghost use lib.ListN.{length, replicate};
 ghost use Rattle.vectors.specs.Rooms.{row-capacity, byte-capacity, row-used};
 ghost use Rattle.vectors.specs.Records.{word-at, number-at, record-of, ended, row-in};
+use crate::rooms;
 use model::Head;
 use numbers::big_endian;
-
-// The most numbers of a row and the most bytes of a plan that a record may bring.
-pub const ROW: usize = 400;
-
-pub const BYTES: usize = 2560;
 
 // The last kind; `next` gives a larger one at the end of the input.
 pub const LAST: u8 = 7;
@@ -74,18 +70,18 @@ fn number(bytes: &[u8], at: usize) -> u32
 }
 
 // Room for a row and for a plan's bytes. The second `ensures` gives the length, which lending a part of the array needs.
-pub fn row(fill: u32) -> [u32; ROW]
+pub fn row(fill: u32) -> [u32; rooms::ROW]
     ensures filled { λ r. ⌜ r ≡ replicate row-capacity fill ⌝ }
     ensures sized { λ r. ⌜ row-capacity ≡ length r ⌝ }
 {
-    [fill; ROW]
+    [fill; rooms::ROW]
 }
 
-pub fn bytes(fill: u8) -> [u8; BYTES]
+pub fn bytes(fill: u8) -> [u8; rooms::BYTES]
     ensures filled { λ r. ⌜ r ≡ replicate byte-capacity fill ⌝ }
     ensures sized { λ r. ⌜ byte-capacity ≡ length r ⌝ }
 {
-    [fill; BYTES]
+    [fill; rooms::BYTES]
 }
 
 // Reads a row of `count` numbers, and answers its length, or 0 where there is no room for it.
@@ -93,7 +89,7 @@ pub fn read_row(count: usize, row: &mut [u32]) -> usize
     ensures used { λ r. ⌜ r ≡ row-used count (length (now (row .entry))) ⌝ }
     ensures within { λ r. ⌜ r ≤ length (now (row .exit)) ⌝ }
 {
-    if count > ROW {
+    if count > rooms::ROW {
         return 0;
     }
     if count > row.len() {

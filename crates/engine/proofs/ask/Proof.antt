@@ -10,9 +10,10 @@ use Rattle.model.specs.Scale.{down, up}
 use Rattle.model.specs.Levels.{row-levels}
 use Rattle.model.specs.Refusal.{HeadAccepted, workspace-needed}
 use Rattle.model.proofs.Facts.{Facts, facts, accepted-head}
+use Rattle.model.proofs.Rooms.{rows-few}
 use Rattle.model.proofs.Theorems.{enclosure}
 use Rattle.month_rule.specs.Shapes.{rows-size}
-use Rattle.engine.proofs.AskLaws.{shape-rows, shape-width, rows-few}
+use Rattle.engine.proofs.AskLaws.{shape-rows, shape-width}
 use Rattle.engine.proofs.AnswerLaws.{Asked, asked, needed-halves, answer-refused, workspace-refused, answer-given, workspace-cleared, chances-parts, severity-fits, months-count, bound-is, encloses-as}
 use Rattle.engine.proofs.ask.Statement.{statement}
 use Rattle.engine.proofs.ask.Tie as tie

@@ -191,10 +191,10 @@ level-left c =
     rw (tail-left (tail-read (tail-found c)), lt-ltb _ _ (tail-found c .if5 .taken), ← c .largest-level .ensures)
 
 returns-5 : tie.Need-returns-5
-returns-5 c = rw (level-left (c .before), lt-ltb _ _ (c .if6 .taken))
+returns-5 c = rw (level-left (c .before), lt-ltb (head-at (head-6 (c .before)) .sizes + 1) _ (c .if6 .taken))
 
 returns-6 : tie.Need-returns-6
-returns-6 c = rw (level-left (c .before), le-ltb _ _ (c .if6 .left))
+returns-6 c = rw (level-left (c .before), le-ltb (head-at (head-6 (c .before)) .sizes + 1) _ (c .if6 .left))
 
 returns-7 : tie.Need-returns-7
 returns-7 c = rw (tail-left (c .before), le-ltb _ _ (c .if5 .left))

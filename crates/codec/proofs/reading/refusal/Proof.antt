@@ -1,5 +1,5 @@
 -- `codec::reading::refusal` meets its contract: `RefusalLaws` puts its tests together as the table does.
-use Prim.Native.Nat.{ℕ, _+_, _*_, _-_, _<_, _≤_}
+use Prim.Native.Nat.{ℕ, _+_, _*_, _-_, _^_, _<_, _≤_}
 use mathlib.Core.Path.{_≡_, sym, ap, ap₂, _∙_}
 use mathlib.Core.Bool.{false, not, cond}
 use mathlib.Core.List.{List}
@@ -15,7 +15,8 @@ use Rattle.model.specs.Plan.{row-length}
 use Rattle.model.specs.Format.{number, head-bits, bits-of, fields, bit-length, byte-length, head-of, row-of, fill-of}
 use Rattle.model.specs.Refusal.{first, head-checks, HeadAccepted, plan-refusal, read-refusal}
 use Rattle.model.proofs.Facts.{head-facts}
-use Rattle.codec.proofs.PlanBits.{length-bits-of, longest, byte-length-fits}
+use Rattle.model.proofs.Rooms.{byte-length-fits, longest-between}
+use Rattle.codec.proofs.PlanBits.{length-bits-of}
 use Rattle.codec.proofs.RefusalLaws.{fill-test, read-stub, read-head, read-length, read-padding, read-rest}
 use Rattle.codec.proofs.reading.refusal.Statement.{statement}
 use Rattle.codec.proofs.reading.refusal.Tie as tie
@@ -105,7 +106,7 @@ ends :
     (c : tie.After-bit-length)
     → (c .bit-length .result ≤ 8 * length (bytes-at (head-3 (length-passed c))))
     × (8 * length (bytes-at (head-3 (length-passed c))) < c .bit-length .result + 8)
-    × (length (bytes-at (head-3 (length-passed c))) ≤ longest)
+    × (length (bytes-at (head-3 (length-passed c))) < 2 ^ 16)
 unfolding byte-length
 ends c =
     omega (
@@ -114,6 +115,7 @@ ends c =
       bytes-counted (length-passed c) .byte-length .ensures,
       length-passed c .if3 .left,
       byte-length-fits _ (head-ok-3 (length-passed c)),
+      longest-between,
     )
 
 mul-fill : tie.Need-mul-fill

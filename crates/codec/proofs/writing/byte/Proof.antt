@@ -8,8 +8,9 @@ use lib.Dec.{lit≤}
 use lib.ListN.{length, getD, take, drop}
 use Rattle.model.specs.Format.{number, filled-bits}
 use Rattle.model.proofs.Facts.{Facts, facts, accepted-head}
+use Rattle.model.proofs.Rooms.{byte-length-fits, longest-between}
 use Rattle.codec.proofs.Fields.{field-next, field-fits, number-fits}
-use Rattle.codec.proofs.PlanBits.{length-filled, filled-at, bits-filled, byte-length-fits}
+use Rattle.codec.proofs.PlanBits.{length-filled, filled-at, bits-filled}
 use Rattle.codec.proofs.writing.byte.Statement.{statement}
 use Rattle.codec.proofs.writing.byte.Tie as tie
 
@@ -55,7 +56,7 @@ mul-x : tie.Need-mul-x Inv-loop μ-loop
 mul-x c = omega (arith, turn c _ refl)
 
 add-bit : tie.Need-add-bit Inv-loop μ-loop
-add-bit c = omega (arith, byte-length-fits _ (accepted-head _ _ (start (c .before) .pre .0)))
+add-bit c = omega (arith, longest-between, byte-length-fits _ (accepted-head _ _ (start (c .before) .pre .0)))
 
 bit-requires : tie.Need-bit-requires Inv-loop μ-loop
 bit-requires c κs = search needs

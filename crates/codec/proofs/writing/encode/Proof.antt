@@ -6,8 +6,8 @@ use borrow.Author.Needs.{needs}
 use lib.ListN.{length, length-set}
 use Rattle.model.specs.Format.{fields, filled-bits, bytes-of}
 use Rattle.model.proofs.Facts.{accepted-head}
+use Rattle.model.proofs.Rooms.{byte-length-fits, longest-between}
 use Rattle.codec.proofs.Fields.{Filling, filling-none, filling-more, filling-done}
-use Rattle.codec.proofs.PlanBits.{byte-length-fits}
 use Rattle.codec.proofs.writing.encode.Statement.{statement}
 use Rattle.codec.proofs.writing.encode.Tie as tie
 
@@ -24,7 +24,7 @@ loop-holds : tie.Need-loop-holds Inv-loop μ-loop
 loop-holds c = filling-none _ _ _
 
 mul-byte : tie.Need-mul-byte Inv-loop μ-loop
-mul-byte c = omega (arith, byte-length-fits _ (accepted-head _ _ (start (c .before) .pre .0)))
+mul-byte c = omega (arith, longest-between, byte-length-fits _ (accepted-head _ _ (start (c .before) .pre .0)))
 
 byte-requires : tie.Need-byte-requires Inv-loop μ-loop
 byte-requires c κs = (start (c .before) .pre .0, omega arith)

@@ -6,7 +6,8 @@ use borrow.Author.Needs.{needs}
 use Rattle.model.specs.Limits.{workspace-room}
 use Rattle.model.specs.Refusal.{rows-needed, workspace-needed}
 use Rattle.model.proofs.Facts.{head-facts}
-use Rattle.engine.proofs.AskLaws.{shape-rows, workspace-fits}
+use Rattle.model.proofs.Rooms.{workspace-fits}
+use Rattle.engine.proofs.AskLaws.{shape-rows}
 use Rattle.engine.proofs.questions.workspace_needed.Statement.{statement}
 use Rattle.engine.proofs.questions.workspace_needed.Tie as tie
 
@@ -32,7 +33,7 @@ needed-is c =
 fits : (c : tie.After-shape-of) → workspace-needed (c .before .before .before .args .ask) ≤ workspace-room
 fits c =
     let start = c .before .before .before in
-    workspace-fits (start .args .ask) (head-facts _ (start .pre .0)) (start .pre .1)
+    workspace-fits (start .args .ask) (start .pre .0) (start .pre .1)
 
 mul-result-2 : tie.Need-mul-result-2
 mul-result-2 c = omega (arith, needed-is (c .before), fits (c .before))
