@@ -1,4 +1,4 @@
--- What a reader has to believe: each definition stands for a sentence of document 01, which its comment quotes or names.
+-- What a reader has to believe: each definition stands for a sentence of document 01 or 02, which its comment quotes or names.
 pub mod Limits
 pub mod Scale
 pub mod Sums
