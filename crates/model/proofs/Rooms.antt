@@ -1,5 +1,5 @@
 -- The rooms that the limits ask for: every plan and question within the limits keeps to them, and the largest needs all of them.
-use Prim.Native.Nat.{ℕ, _+_, _*_, _^_, _≤_, _<_}
+use Prim.Native.Nat.{_+_, _*_, _^_, _≤_, _<_}
 use mathlib.Core.Path.{_≡_, refl}
 use mathlib.Core.Bool.{false}
 use native.Mathlib.Nat.{mul-le-mul}
