@@ -1,4 +1,2 @@
-pub mod TextLaws
-pub mod AskingLaws
 pub mod Laws
 pub mod Beyond

@@ -1,4 +1,2 @@
--- The reserve report as bytes: its text, what asking needs and leaves, its lines and the whole.
-pub mod Text
-pub mod Asking
+-- The reserve report as bytes: the whole, from its lines.
 pub mod Report

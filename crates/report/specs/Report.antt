@@ -1,93 +1,18 @@
--- "The reserve report", from the definitions of the model alone.
-use Prim.Native.Nat.{ℕ, _+_, _*_, _^_, _<_, _≤_, min}
+-- "The reserve report", from its lines and the definitions of the model alone.
+use Prim.Native.Nat.{ℕ, _+_, _*_, _≤_}
 use mathlib.Core.Path.{_≡_}
-use mathlib.Core.Bool.{false, cond}
+use mathlib.Core.Bool.{cond}
 use mathlib.Core.List.{List, [], _∷_, _++_}
 use lib.Dec.{eqb}
-use lib.ListN.{length, getD}
+use lib.ListN.{length}
 use Rattle.model.specs.declared.Head.{Head}
-use Rattle.model.specs.declared.Question.{Question}
 use Rattle.model.specs.declared.Question.the-variants.{Survive, Both, High, Low}
-use Rattle.model.specs.Limits.{max-months, max-opening, max-claims, max-span, places, row-room, workspace-room}
-use Rattle.model.specs.Levels.{gain, largest-level}
+use Rattle.model.specs.Limits.{max-months, row-room, workspace-room}
 use Rattle.model.specs.Plan.{Plan, plan-of}
 use Rattle.model.specs.Format.{head-of, row-of}
-use Rattle.model.specs.Bounds.{lower, upper, count-lower, count-upper}
-use Rattle.model.specs.Refusal.{outside, read-refusal}
-use Rattle.report.specs.declared.answers.Bounds.{Bounds}
-use Rattle.report.specs.declared.groups.LineRange.{LineRange}
-use Rattle.report.specs.Text.{ascii, entry, line, joined}
-
--- the word of a question's lines
-abbrev pub word-of : Question → List ℕ
-word-of Survive = ascii "survive"
-word-of (Both k) = ascii "both"
-word-of (High L) = ascii "high"
-word-of (Low L) = ascii "low"
-
--- "its number where it has one"
-abbrev pub number-of : Question → List ℕ
-number-of Survive = []
-number-of (Both k) = k ∷ []
-number-of (High L) = L ∷ []
-number-of (Low L) = L ∷ []
-
--- the same question with another number
-abbrev pub numbered : Question → ℕ → Question
-numbered Survive x = Survive
-numbered (Both k) x = Both x
-numbered (High L) x = High x
-numbered (Low L) x = Low x
-
--- "the head line gives n, u and m, each after its word"
-unfoldable pub head-line : Head → List ℕ
-head-line h =
-    entry (ascii "months") (h .months ∷ [])
-    ++ entry (ascii " opening") (h .opening ∷ [])
-    ++ line (ascii " sizes") (h .sizes ∷ [])
-
--- "Every later line is a word, its number where it has one, lower, upper"
-abbrev pub bounds-line : Question → ℕ → ℕ → List ℕ
-bounds-line q low high = line (word-of q) (number-of q ++ low ∷ high ∷ [])
-
-unfoldable pub question-line : Plan → Question → List ℕ
-question-line p q = bounds-line q (lower p q) (upper p q)
-
--- both bounds of a question, in one struct
-abbrev pub bounds-of : Plan → Question → Bounds
-bounds-of p q = record { lower = lower p q; upper = upper p q }
-
--- so many lines of a question, its number rising from the first
-abbrev pub question-at : Plan → Question → ℕ → ℕ → List ℕ
-question-at p q first i = question-line p (numbered q (first + i))
-
-unfoldable pub question-lines : Plan → Question → ℕ → ℕ → List ℕ
-question-lines p q first count = joined count (question-at p q first)
-
-abbrev pub claims-line : ℕ → ℕ → ℕ → List ℕ
-claims-line k low high = line (ascii "claims") (k ∷ low ∷ high ∷ [])
-
--- the line of a place of a count row, and of a plan's
-abbrev pub claims-at : List ℕ → List ℕ → ℕ → List ℕ
-claims-at lowers uppers k = claims-line k (getD lowers k 0) (getD uppers k 0)
-
-abbrev pub claims-line-of : Plan → ℕ → List ℕ
-claims-line-of p k = claims-line k (count-lower p k) (count-upper p k)
-
--- "Claims run 0 to n"
-unfoldable pub claims-lines : Plan → ℕ → List ℕ
-claims-lines p n = joined (n + 1) (claims-line-of p)
-
--- "both 0 to the lesser of n and 24, high 1 to u + n, low 1 to u + 1"; survive has one line, with no number
-unfoldable pub line-range : Question → Head → LineRange
-line-range Survive h = record { first = 0; count = 1 }
-line-range (Both k) h = record { first = 0; count = min (h .months) max-claims + 1 }
-line-range (High L) h = record { first = 1; count = largest-level (h .opening) (h .months) }
-line-range (Low L) h = record { first = 1; count = h .opening + gain }
-
--- all lines of a question
-abbrev pub group-lines : Plan → Head → Question → List ℕ
-group-lines p h q = question-lines p q (line-range q h .first) (line-range q h .count)
+use Rattle.model.specs.Refusal.{read-refusal}
+use Rattle.text.specs.Text.{ascii, line}
+use Rattle.report_lines.specs.Lines.{head-line, claims-lines, group-lines, head-room, line-room, most-lines}
 
 -- the report of an accepted plan
 unfoldable pub plan-report : Head → List ℕ → List ℕ
@@ -102,33 +27,7 @@ plan-report h row =
     p : Plan
     p = plan-of h row
 
--- two rows hold the bounds of each place of a plan's count row
-pub record CountsOf (p : Plan) (lowers uppers : List ℕ) : Type 0 where
-  pub lowers-long : length lowers ≡ places
-  pub uppers-long : length uppers ≡ places
-  pub lowers-are : (k : ℕ) → k < places → getD lowers k 0 ≡ count-lower p k
-  pub uppers-are : (k : ℕ) → k < places → getD uppers k 0 ≡ count-upper p k
-
--- room for a head line, and for any other line: its word, three numbers of at most 20 digits, spaces and the newline
-abbrev pub head-room : ℕ
-head-room = 84
-
-abbrev pub line-room : ℕ
-line-room = 71
-
--- What lines of a question need: numbers within the limits that fit 64 bits, and room in the text.
-pub record LinesFit (q : Question) (first count at : ℕ) (text : List ℕ) : Type 0 where
-  pub within : (i : ℕ) → i < count → outside (numbered q (first + i)) ≡ false
-  pub numbers-fit : first + count < 2 ^ 64
-  pub room : at + count * line-room ≤ length text
-
--- the most lines of a question, and room for the longest report
-unfoldable pub most-lines : Question → ℕ
-most-lines Survive = 1
-most-lines (Both k) = max-claims + 1
-most-lines (High L) = max-span
-most-lines (Low L) = max-opening + gain
-
+-- room for the longest report
 abbrev pub text-room : ℕ
 text-room =
     head-room + (most-lines Survive + (max-months + 1) + most-lines (Both 0) + most-lines (High 0) + most-lines (Low 0)) * line-room

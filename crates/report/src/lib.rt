@@ -1,17 +1,13 @@
 // The reserve report of document 01: from the bytes of a plan to the text of its report.
-mod answers;
-mod groups;
-mod lines;
-mod text;
-
-use crate::groups::put_counts;
-use crate::groups::put_group;
-use crate::text::put_line;
 use model::Head;
 use model::Question;
 use model::limits;
 use plan::lengths::blank_row;
 use plan::lengths::row_length;
+use report_lines::groups::put_counts;
+use report_lines::groups::put_group;
+use report_lines::lines::put_head;
+use text::put_line;
 ghost use mathlib.Core.Path.{_≡_};
 ghost use Prim.Native.Nat.{_≤_};
 ghost use mathlib.Core.List.{_++_};
@@ -19,8 +15,8 @@ ghost use lib.ListN.{length, take, drop, replicate};
 ghost use Rattle.model.specs.Limits.{workspace-room};
 ghost use Rattle.model.specs.Plan.{row-length};
 ghost use Rattle.codec.specs.Answers.{row-after};
-ghost use Rattle.report.specs.Text.{Appended};
-ghost use Rattle.report.specs.Asking.{Answerable, Cleared};
+ghost use Rattle.text.specs.Text.{Appended};
+ghost use Rattle.report_lines.specs.Asking.{Answerable, Cleared};
 ghost use Rattle.report.specs.Report.{text-room, refused-line, plan-report, ReportRoom, report-of};
 
 // Room for every report: the proof of `report` fails where it is less than `text-room`.
@@ -84,7 +80,7 @@ fn put_plan(text: &mut [u8], head: Head, row: &[u32], workspace: &mut [u32]) -> 
     ensures written { λ r. ⌜ Appended (now (text .entry)) 0 (plan-report head (now (row .entry))) (now (text .exit)) r ⌝ }
     ensures cleared { λ _. ⌜ Cleared (now (workspace .entry)) (now (workspace .exit)) ⌝ }
 {
-    let end = lines::put_head(text, 0, head);
+    let end = put_head(text, 0, head);
     let end = put_group(text, end, head, Question::Survive, row, workspace);
     let end = put_counts(text, end, head, row);
     let end = put_group(text, end, head, Question::Both(0), row, workspace);

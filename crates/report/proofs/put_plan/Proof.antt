@@ -8,10 +8,11 @@ use lib.ListN.{length}
 use Rattle.model.specs.declared.Question.the-variants.{Survive, Both, High, Low}
 use Rattle.model.specs.Limits.{max-months}
 use Rattle.model.proofs.Facts.{HeadFacts, head-facts, accepted-head}
-use Rattle.report.proofs.TextLaws.{appended-more}
-use Rattle.report.proofs.AskingLaws.{cleared-more}
-use Rattle.report.specs.Report.{plan-report, line-room, most-lines}
-use Rattle.report.proofs.Laws.{head-ends, claims-end, group-ends}
+use Rattle.text.proofs.TextLaws.{appended-more}
+use Rattle.report_lines.proofs.AskingLaws.{cleared-more}
+use Rattle.report_lines.specs.Lines.{line-room, most-lines}
+use Rattle.report_lines.proofs.LineLaws.{head-ends, claims-end, group-ends}
+use Rattle.report.specs.Report.{plan-report}
 use Rattle.report.proofs.put_plan.Statement.{statement}
 use Rattle.report.proofs.put_plan.Tie as tie
 

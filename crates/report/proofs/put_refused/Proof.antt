@@ -1,5 +1,5 @@
 -- `report::put_refused` meets its contract: there is room for any line. Assumes nothing.
-use Rattle.report.proofs.TextLaws.{line-fits}
+use Rattle.text.proofs.TextLaws.{line-fits}
 use borrow.Author.Needs.{needs}
 use Rattle.report.proofs.put_refused.Statement.{statement}
 use Rattle.report.proofs.put_refused.Tie as tie

@@ -9,7 +9,7 @@ use Rattle.model.specs.Format.{head-of, row-of}
 use Rattle.model.specs.Refusal.{read-refusal}
 use Rattle.codec.proofs.Answered.{read-number, reads}
 use Rattle.codec.proofs.RefusalLaws.{readable}
-use Rattle.report.proofs.AskingLaws.{cleared-none}
+use Rattle.report_lines.proofs.AskingLaws.{cleared-none}
 use Rattle.report.proofs.Laws.{report-refused, report-accepted, row-read}
 use borrow.Author.Needs.{needs}
 use Rattle.report.proofs.put_report.Statement.{statement}

@@ -3,8 +3,8 @@ use mathlib.Core.Path.{sym}
 use borrow.Author.Needs.{needs}
 use lib.Seq.{length-take-le}
 use Rattle.model.specs.Levels.{gain}
-use Rattle.report.specs.Report.{most-lines}
-use Rattle.report.proofs.TextLaws.{appended-whole}
+use Rattle.report_lines.specs.Lines.{most-lines}
+use Rattle.text.proofs.TextLaws.{appended-whole}
 use Rattle.report.proofs.report.Statement.{statement}
 use Rattle.report.proofs.report.Tie as tie
 

@@ -1,0 +1,2 @@
+-- Laws that the functions' proofs cite, here and in the crates above.
+pub mod TextLaws
