@@ -3,8 +3,8 @@
 //!   rustc -O docs/src/baseline.rs -o OUT
 //!
 //! Written from these documents alone, not from the engine or its definitions. It has the rows and the order of work of document 01: two rows of
-//! u + n + 1 numbers for a question, k + 1 times that for both k, each replaced in place month by month, from the highest level down.
-use std::fmt::Write as _;
+//! u + n + 1 numbers for an answer, k + 1 times that for both k, each replaced in place month by month, from the highest level down.
+use std::fmt::{Display, Write as _};
 use std::io::{self, Read, Write as _};
 
 const S: u64 = 1 << 30;
@@ -132,23 +132,48 @@ fn month_of(plan: &Plan, question: Question, t: usize, add: u64, rows: &mut [u32
     month(rows, top, chance, add, claims);
 }
 
-/// V_0(u) in one rounding; `rows` has a row for each number of claims left, and none left comes first.
+/// The value at the opening, from the rows at the end of this many months: one for each number of claims left, and none left comes first.
+fn carried_back(plan: &Plan, question: Question, months: usize, add: u64, rows: &mut [u32]) -> u32 {
+    for t in (1..=months).rev() {
+        month_of(plan, question, t, add, rows);
+    }
+    let span = plan.opening + plan.chances.len() + 1;
+    rows[rows.len() - span + plan.opening]
+}
+
+/// V_0(u) in one rounding.
 fn value(plan: &Plan, question: Question, add: u64, rows: &mut [u32]) -> u32 {
     let span = plan.opening + plan.chances.len() + 1;
     rows.fill(0);
     rows[..span].fill(S as u32);
-    for t in (1..=plan.chances.len()).rev() {
-        month_of(plan, question, t, add, rows);
-    }
-    rows[rows.len() - span + plan.opening]
+    carried_back(plan, question, plan.chances.len(), add, rows)
 }
 
-/// The lower and the upper bound, each in its half of the rows.
-fn bounds(plan: &Plan, question: Question, workspace: &mut [u32]) -> [u32; 2] {
-    let rows = if let Question::Both(k) = question { k + 1 } else { 1 };
+/// The value at the opening of failing first in month t, in one rounding. What the sizes up to a level leave of S are those above it, and over.
+fn failure(plan: &Plan, t: usize, add: u64, row: &mut [u32]) -> u32 {
+    let chance = u64::from(plan.chances[t - 1]);
+    let mut above = S;
+    for (s, value) in row[..plan.opening + t].iter_mut().enumerate() {
+        *value = ((chance * above + add) / S) as u32;
+        above -= u64::from(plan.weights.get(s).copied().unwrap_or(0));
+    }
+    carried_back(plan, Question::Survive, t - 1, add, row)
+}
+
+/// The lower and the upper bound, each in its half of the workspace, which has so many rows.
+fn both_ways(plan: &Plan, rows: usize, workspace: &mut [u32], one_way: impl Fn(u64, &mut [u32]) -> u32) -> [u32; 2] {
     let half = rows * (plan.opening + plan.chances.len() + 1);
     let (lower, upper) = workspace[..2 * half].split_at_mut(half);
-    [value(plan, question, ROUNDINGS[0], lower), value(plan, question, ROUNDINGS[1], upper)]
+    [one_way(ROUNDINGS[0], lower), one_way(ROUNDINGS[1], upper)]
+}
+
+fn bounds(plan: &Plan, question: Question, workspace: &mut [u32]) -> [u32; 2] {
+    let rows = if let Question::Both(k) = question { k + 1 } else { 1 };
+    both_ways(plan, rows, workspace, |add, rows| value(plan, question, add, rows))
+}
+
+fn failure_bounds(plan: &Plan, t: usize, workspace: &mut [u32]) -> [u32; 2] {
+    both_ways(plan, 1, workspace, |add, row| failure(plan, t, add, row))
 }
 
 fn count_row(plan: &Plan, add: u64) -> [u32; MONTHS + 1] {
@@ -166,7 +191,7 @@ fn count_row(plan: &Plan, add: u64) -> [u32; MONTHS + 1] {
 
 // ---- The reserve report
 
-fn put(text: &mut String, word: &str, number: Option<usize>, [lower, upper]: [u32; 2]) {
+fn put(text: &mut String, word: &str, number: Option<usize>, [lower, upper]: [impl Display; 2]) {
     match number {
         Some(number) => writeln!(text, "{word} {number} {lower} {upper}").unwrap(),
         None => writeln!(text, "{word} {lower} {upper}").unwrap(),
@@ -191,6 +216,13 @@ fn report(plan: &Plan) -> String {
     for level in 1..=u + 1 {
         put(&mut text, "low", Some(level), bounds(plan, Question::Low(level), &mut workspace));
     }
+    let mut totals = [0, 0];
+    for t in 1..=n {
+        let pair = failure_bounds(plan, t, &mut workspace);
+        put(&mut text, "fails", Some(t), pair);
+        totals = [totals[0] + u64::from(pair[0]), totals[1] + u64::from(pair[1])];
+    }
+    put(&mut text, "fails all", None, totals);
     text
 }
 

@@ -6,7 +6,7 @@ from collections import namedtuple
 from plans import EXAMPLE, EXAMPLE_BYTES, ONE_SIZE, WORKED, changed, flat, flipped, geometric, long_plans, questions, some_plan, split
 from records import FULL_NUMBER, Calls
 from rules import CLAIMS, HEAD_BYTES, LARGEST, LEVEL, MONTHS, NUMBER_BITS, OPENING, SIZES, SURVIVE, WIDTHS, Head, Question, S
-from rules import bit_length, byte_length, plan_checks, refusal, row_length, workspace_needed, write_bytes
+from rules import all_months, bit_length, byte_length, plan_checks, refusal, row_length, workspace_needed, write_bytes
 
 FULL = 2**64 - 1  # the largest number of a head or a question
 WIDEST = Head(*(2**width - 1 for width in WIDTHS))  # what a head's fields can say
@@ -53,10 +53,15 @@ def tail_edges():
         yield flat(n, u, m)
 
 
-# ---- Asks
+# ---- Asks, for one of the four questions or for failing in a month
 
-Ask = namedtuple("Ask", "head row question room")
+Ask = namedtuple("Ask", "head row question room", defaults=[None])  # with no room given, what is needed
 ENOUGH = 3000  # numbers of workspace, where the question needs more than can be lent and is refused for its number
+
+
+def fails(t):
+    """Failing in month t, which an ask can have in place of a question."""
+    return Question("fails", t)
 
 
 def number_edges():
@@ -67,11 +72,12 @@ def number_edges():
 
 
 def room_edges():
-    for question in (SURVIVE, Question("both", 0), Question("both", CLAIMS), Question("high", 6), Question("low", 2)):
+    for question in (SURVIVE, Question("both", 0), Question("both", CLAIMS), Question("high", 6), Question("low", 2), fails(1), fails(3)):
         needed = workspace_needed(BRIEF[0], question)
         for room in (0, 1, needed - 1, needed, needed + 1, needed + 40):
             yield Ask(*BRIEF, question, room)
-    asked = SURVIVE, Question("both", 2), Question("high", 6), Question("low", 2), Question("low", 0), Question("high", 0)
+    levels = Question("high", 6), Question("low", 2), Question("low", 0), Question("high", 0)
+    asked = SURVIVE, Question("both", 2), *levels, fails(1), fails(7)
     for n, u in ((0, 0), (0, 7), (7, 0), (MONTHS, OPENING)):
         plan = flat(n, u, 3)
         for question in asked:
@@ -87,8 +93,8 @@ ROW_FAULTS = {
     9: lambda row: changed(changed(row, -1, 1), -2, S - 1),
 }
 
-# What turns an ask away, by number: each takes an ask to one that the number fits.
-ASK_FAULTS = {
+# What turns an ask's plan away, by number: each takes an ask to one that the number fits.
+PLAN_FAULTS = {
     2: lambda ask: ask._replace(head=ask.head._replace(months=MONTHS + 1)),
     3: lambda ask: ask._replace(head=ask.head._replace(opening=OPENING + 1)),
     4: lambda ask: ask._replace(head=ask.head._replace(sizes=SIZES + 1)),
@@ -96,16 +102,47 @@ ASK_FAULTS = {
     7: lambda ask: ask._replace(row=ROW_FAULTS[7](ask.row)),
     8: lambda ask: ask._replace(row=ROW_FAULTS[8](ask.row)),
     9: lambda ask: ask._replace(row=ROW_FAULTS[9](ask.row)),
-    10: lambda ask: ask._replace(question=Question("low", LEVEL + 1)),
-    11: lambda ask: ask._replace(room=0),
 }
 
 
-def fault_pairs():
-    """Asks that two numbers of the table fit: the smaller one counts."""
-    whole = Ask(*BRIEF, SURVIVE, workspace_needed(BRIEF[0], SURVIVE))
-    for one, other in itertools.combinations_with_replacement(ASK_FAULTS, 2):
-        yield ASK_FAULTS[one](ASK_FAULTS[other](whole))
+def asking(question):
+    return lambda ask: ask._replace(question=question)
+
+
+def fault_pairs(question, *refused):
+    """Asks that two numbers of the table fit: the smaller one counts. The question is answered, and 10 fits each of those refused."""
+    whole = Ask(*BRIEF, question, workspace_needed(BRIEF[0], question))
+    faults = [*PLAN_FAULTS.values(), *map(asking, refused), lambda ask: ask._replace(room=0)]
+    for one, other in itertools.combinations_with_replacement(faults, 2):
+        yield one(other(whole))
+
+
+def all_fault_pairs():
+    yield from fault_pairs(SURVIVE, Question("low", LEVEL + 1))
+    yield from fault_pairs(fails(2), fails(0), fails(BRIEF[0].months + 1))
+
+
+def month_edges():
+    """Months around 1 and n, and numbers that are a month where only their last bits are looked at."""
+    for n, u in itertools.product((0, 1, 3, MONTHS), (0, 4)):
+        for t in sorted({0, 1, n, n + 1, 2**8 + 1, 2**32, 2**32 + 1, FULL}):
+            yield Ask(*flat(n, u, 5), fails(t))
+
+
+def failing_plans():
+    """A chance of 0 or S in one month; all weight on one size or on over, with the least sizes that the tail rule takes."""
+    for u, at, chance in itertools.product((0, 2), range(4), (0, S)):
+        yield Head(4, u, 8), changed([S // 2] * 4 + geometric(8), at, chance)
+    for n, u in ((3, 0), (3, 2)):
+        sizes = u + n - 1
+        for at in range(sizes + 1):
+            yield Head(n, u, sizes), [S // 3] * n + changed([0] * (sizes + 1), at, S)
+
+
+def every_month():
+    for head, row in failing_plans():
+        for t in all_months(head):
+            yield Ask(head, row, fails(t))
 
 
 # ---- Plan bytes
@@ -148,12 +185,12 @@ def row_byte_edges():
 def add_edges(calls):
     for head, row, question, *_ in WORKED:
         calls.ask(head, row, question)
-    both = Question("both", 1)
     for head, row in itertools.chain(head_edges(), row_edges(), tail_edges()):
-        calls.ask(head, row, both, room=min(workspace_needed(head, both), ENOUGH))
+        for question in (Question("both", 1), fails(1)):
+            calls.ask(head, row, question, room=min(workspace_needed(head, question), ENOUGH))
         calls.count(head, row)
         calls.write(head, row, room=4 if refusal(plan_checks(head, row)) else byte_length(head))
-    for ask in itertools.chain(number_edges(), room_edges(), fault_pairs()):
+    for ask in itertools.chain(number_edges(), room_edges(), all_fault_pairs(), month_edges(), every_month()):
         calls.ask(*ask)
     for data in itertools.chain(example_damaged(), head_byte_edges(), row_byte_edges()):
         calls.read(data)
@@ -163,7 +200,7 @@ def add_lent_memory(calls):
     """What a lent part held before, and its length around what is needed."""
     head, _ = EXAMPLE
     for fill in (0, 1, S, 2**31, FULL_NUMBER):
-        for question in (SURVIVE, Question("both", 2), Question("high", 2), Question("low", 2)):
+        for question in (SURVIVE, Question("both", 2), Question("high", 2), Question("low", 2), fails(1), fails(2)):
             calls.ask(*EXAMPLE, question, workspace_needed(head, question) + 3, fill)
         calls.read(EXAMPLE_BYTES, row_length(head), fill)
         for more in (-row_length(head), -1, 1, 4):
@@ -176,23 +213,27 @@ def add_random_asks(calls, rng, head, row, asked):
         calls.ask(head, row, question, workspace_needed(head, question) + rng.randrange(3), rng.getrandbits(32))
 
 
-def add_random_plans(calls, rng):
-    for _ in range(40):  # small plans, all questions
+def add_random_plans(calls, rng, own):
+    """Failing has random numbers of its own, on which no plan and no question hangs."""
+    for _ in range(40):  # small plans, all questions and months
         head, row = some_plan(rng, rng.randrange(5), rng.randrange(5), rng.randrange(1, 8))
         add_random_asks(calls, rng, head, row, questions(head))
+        add_random_asks(calls, own, head, row, map(fails, all_months(head)))
     for head, row in long_plans(rng):
         calls.count(head, row)
         calls.write(head, row, byte_length(head) + 1)
         calls.read(write_bytes(head, row), row_length(head) + 1)
         levels = Question("high", head.opening + head.months // 2), Question("low", head.opening // 2)
         add_random_asks(calls, rng, head, row, (SURVIVE, *levels, Question("both", 3), Question("both", CLAIMS)))
+        n = head.months
+        add_random_asks(calls, own, head, row, (fails(t) for t in (1, 2, n // 2, n - 1, n) if t in all_months(head)))
 
 
 def all_calls():
     calls = Calls()
     add_edges(calls)
     add_lent_memory(calls)
-    add_random_plans(calls, random.Random(1))
+    add_random_plans(calls, random.Random(1), random.Random(5))
     return calls
 
 

@@ -1,7 +1,7 @@
 """Exact chances, in three ways that use nothing of the month rule: every history listed, and the published recursions, on small plans; on long
 ones the histories carried forward together that have come to the same level.
 
-Written from document 01 and source document 000 alone.
+Written from documents 01 and 02 and source document 000 alone.
 """
 import itertools
 import math
@@ -70,6 +70,16 @@ def count_weight(listed, k):
     return sum(one.weight for one in listed if one.claims == k)
 
 
+def first_ruin(one):
+    """The month of it; None where the fund survives."""
+    return next((t for t, level in enumerate(one.path, 1) if level <= 0), None)
+
+
+def failure_weight(listed, t):
+    """First ruin in month t."""
+    return sum(one.weight for one in listed if first_ruin(one) == t)
+
+
 # ---- The same weights on plans whose histories are too many to list
 
 
@@ -103,6 +113,20 @@ def carried_counts(plan):
     return carried(plan, 0, lambda claims, event: claims + (event != NO_CLAIM))
 
 
+def carried_failures(plan):
+    """The weights of first ruin in month t, by t: a state is the months up to the present or the ruin, and the level, None after a ruin."""
+
+    def following(state, event):
+        t, level = state
+        if level is None:
+            return state
+        after = level + 1 - event
+        return t + 1, after if after > 0 else None
+
+    weights = carried(plan, (0, plan.head.opening), following)
+    return Counter({t: weight for (t, level), weight in weights.items() if level is None})
+
+
 # ---- Enclosure and gap rule
 
 GAP = 2  # parts of S that a month with a chance above 0 may cost
@@ -113,8 +137,9 @@ def encloses(plan, weight, lower, upper):
     return lower * whole <= weight * S <= upper * whole
 
 
-def keeps_gap(plan, lower, upper):
-    return lower <= upper <= lower + GAP * sum(chance > 0 for chance in plan.chances)
+def keeps_gap(plan, months, lower, upper):
+    """Counting the first so many months."""
+    return lower <= upper <= lower + GAP * sum(chance > 0 for chance in plan.chances[:months])
 
 
 # ---- The published recursions in fractions (source document 000, Theorems 2.1 and 3.2)

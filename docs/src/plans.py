@@ -19,6 +19,9 @@ high 2 469762048 469762048
 high 3 738197504 738197504
 low 1 738197504 738197504
 low 2 402653184 402653184
+fails 1 268435456 268435456
+fails 2 67108864 67108864
+fails all 335544320 335544320
 """
 
 WORKED = [  # "Funds worked by hand": head, row, question, refusal, lower, upper (None: the paper only says accepted or answered)

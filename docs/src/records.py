@@ -2,8 +2,9 @@
 
 The input of `vectors` is a list of records: eight words of 8 bytes, most significant byte first (kind, months, opening, sizes, number, room,
 fill, length), then what the kind asks. `row` sets the row that later records use: length numbers of 4 bytes. The four questions ask with that
-row, `number` as k or L and a workspace of `room` numbers that each hold `fill`. `count` asks for the count row. `write` lends `room` bytes and
-`read` a row of `room` numbers, each holding `fill`; `read` is followed by the plan's `length` bytes.
+row, `number` as k or L and a workspace of `room` numbers that each hold `fill`; `fails` asks in the same way, `number` as the month. `count` asks
+for the count row. `write` lends `room` bytes and `read` a row of `room` numbers, each holding `fill`; `read` is followed by the plan's `length`
+bytes.
 Its output has a line for each record but `row`: the refusal's number, the numbers answered, and the lent memory after the call, which is the
 bytes of `write` in hexadecimal and otherwise a checksum.
 
@@ -11,10 +12,10 @@ bytes of `write` in hexadecimal and otherwise a checksum.
 """
 import itertools
 
-from rules import HEAD_BYTES, LARGEST, MOST_ASKED, PLACES, Head, ask_checks, bounds, count_row, down, plan_checks, plan_of
-from rules import read_bytes, read_checks, refusal, row_length, up, workspace_needed, write_bytes, write_checks
+from rules import HEAD_BYTES, LARGEST, MOST_ASKED, PLACES, Head, ask_checks, bounds, count_row, down, failure_bounds, failure_checks, plan_checks
+from rules import plan_of, read_bytes, read_checks, refusal, row_length, up, workspace_needed, write_bytes, write_checks
 
-KINDS = ["row", "survive", "both", "high", "low", "count", "write", "read"]
+KINDS = ["row", "survive", "both", "high", "low", "count", "write", "read", "fails"]
 FULL_NUMBER = 2**32 - 1  # the largest number that a row or a workspace can hold
 
 # The room that the program lends, as in crates/vectors/src/rooms.rt. It passes over a record that needs more.
@@ -33,6 +34,11 @@ def checksum(memory):
     for x in memory:
         total = (total * 31 + x) % 1000000007
     return total
+
+
+def rules_of(question):
+    """The checks and the answer of the call, and what both take: one of the four questions, or for `fails` the month."""
+    return (failure_checks, failure_bounds, question.number) if question.word == "fails" else (ask_checks, bounds, question)
 
 
 def fitting(needed, capacity):
@@ -65,8 +71,9 @@ class Calls:
         room = needed if room is None else room
         self.use(row)
         self.record(question.word, head, question.number, fitting(room, WORKSPACE), fill)
-        number = refusal(ask_checks(head, row, question, room))
-        low, high = (0, 0) if number else bounds(plan_of(head, row), question)
+        checks, answer, asked = rules_of(question)
+        number = refusal(checks(head, row, asked, room))
+        low, high = (0, 0) if number else answer(plan_of(head, row), asked)
         after = [fill] * room if number else [0] * needed + [fill] * (room - needed)
         label = f"{question.word} {question.number} of {tuple(head)}, row of {len(row)}, workspace of {room} holding {fill}"
         self.answers(label, number, low, high, checksum(after))

@@ -8,7 +8,7 @@ Written from these documents and their sources alone, not from the engine or its
   reference.py plan N U M ROW..   the plan bytes of a head and a row (chances, weights, over) on standard output
   reference.py vectors DIR        DIR/stdin and DIR/stdout of the test program over the calls
   reference.py cases              one line for each line of that stdout: what was called
-  reference.py repeat WORD K N    N times one question on the largest plan, as that program's input, to time it
+  reference.py repeat WORD K N    N times one question, or failing in month K, on the largest plan, as that program's input, to time it
   reference.py example DIR        DIR/stdin and DIR/stdout of the reserve report: document 01's example
   reference.py reports DIR        DIR/stdin and DIR/stdout of many reserve reports, the largest included: takes minutes
 """

@@ -1,4 +1,4 @@
-"""The rules of documents 01 and 02: plans and plan bytes, what is turned away, the month rule, the count row, the report.
+"""The rules of documents 01 and 02: plans and plan bytes, what is turned away, the month rule, the count row, failing in a month, the report.
 
 Written from these documents and their sources alone, not from the engine or its definitions.
 """
@@ -30,6 +30,10 @@ def plan_of(head, row):
 
 def largest_level(head):
     return head.opening + head.months
+
+
+def all_months(head):
+    return range(1, head.months + 1)
 
 
 # ---- Plan bytes
@@ -106,6 +110,12 @@ def ask_checks(head, row, question, room):
     yield 11, room < workspace_needed(head, question)
 
 
+def failure_checks(head, row, t, room):
+    yield from plan_checks(head, row)
+    yield 10, t == 0 or t > head.months
+    yield 11, room < workspace_needed(head, SURVIVE)  # "Its desk is that of survive"
+
+
 def write_checks(head, row, room):
     yield from plan_checks(head, row)
     yield 11, room < byte_length(head)
@@ -122,7 +132,7 @@ def read_checks(data, room):
 
 
 def workspace_needed(head, question):
-    """The paper's desk: a row over the levels for each rounding, and for both k that times k + 1."""
+    """The paper's desk: a row over the levels for each rounding, for a month's failure too, and for both k that times k + 1."""
     rows = question.number + 1 if question.word == "both" else 1
     return 2 * (largest_level(head) + 1) * rows
 
@@ -177,12 +187,27 @@ def month_back(plan, question, t, rows, divide):
     return [[month(divide, plan.weights, chance, *pair, s) for s in levels] for pair in zip(kept, claimed)]
 
 
-def month_rule(plan, question, divide):
-    """V_0(u)."""
-    rows = last_rows(plan, question)
-    for t in range(plan.head.months, 0, -1):
+def carried_back(plan, question, months, rows, divide):
+    """The value at the opening, from the rows at the end of this many months."""
+    for t in range(months, 0, -1):
         rows = month_back(plan, question, t, rows, divide)
     return rows[-1][plan.head.opening]
+
+
+def month_rule(plan, question, divide):
+    """V_0(u)."""
+    return carried_back(plan, question, plan.head.months, last_rows(plan, question), divide)
+
+
+def failing_row(plan, t, divide):
+    """The values before month t of failing in it, over the levels that it can begin at: P_t × (the sizes above the level, and over)."""
+    chance, levels = plan.chances[t - 1], range(plan.head.opening + t)
+    return [divide(chance * (sum(plan.weights[s:]) + plan.tail)) for s in levels]
+
+
+def failure_rule(plan, t, divide):
+    """The value at the opening of failing first in month t."""
+    return carried_back(plan, SURVIVE, t - 1, [failing_row(plan, t, divide)], divide)
 
 
 def count_month(row, chance, divide):
@@ -200,6 +225,15 @@ def bounds(plan, question):
     return month_rule(plan, question, down), month_rule(plan, question, up)
 
 
+def failure_bounds(plan, t):
+    return failure_rule(plan, t, down), failure_rule(plan, t, up)
+
+
+def totals(pairs):
+    """The sum of the lower bounds and that of the upper ones."""
+    return tuple(map(sum, zip((0, 0), *pairs)))
+
+
 # ---- The reserve report
 
 
@@ -210,6 +244,13 @@ def line_numbers(head):
     yield "low", range(1, head.opening + 2)
 
 
+def failure_lines(plan):
+    pairs = [failure_bounds(plan, t) for t in all_months(plan.head)]
+    for t, pair in zip(all_months(plan.head), pairs):
+        yield "fails %d %d %d" % (t, *pair)
+    yield "fails all %d %d" % totals(pairs)
+
+
 def report_lines(plan):
     yield "months %d opening %d sizes %d" % plan.head
     yield "survive %d %d" % bounds(plan, SURVIVE)
@@ -218,6 +259,7 @@ def report_lines(plan):
     for word, numbers in line_numbers(plan.head):
         for number in numbers:
             yield "%s %d %d %d" % (word, number, *bounds(plan, Question(word, number)))
+    yield from failure_lines(plan)
 
 
 def report(data):

@@ -3,12 +3,12 @@ import math
 import random
 from fractions import Fraction
 
-from exact import carried_counts, carried_weight, claim_chance, count_weight, encloses, first_claim_both, first_claim_survival, keeps_gap
-from exact import outcomes, question_weight
-from plans import EXAMPLE, EXAMPLE_BYTES, EXAMPLE_TEXT, WORKED, lasting_plan, questions, some_plan
-from rules import CLAIMS, LARGEST, MONTHS, MOST_ASKED, PLACES, S, SURVIVE, Question, ask_checks, bounds, byte_length, count_row, down
-from rules import largest_level, month_rule, plan_of
-from rules import read_bytes, refusal, report, unrounded, up, workspace_needed, write_bytes
+from exact import carried_counts, carried_failures, carried_weight, claim_chance, count_weight, encloses, failure_weight, first_claim_both
+from exact import first_claim_survival, keeps_gap, outcomes, question_weight
+from plans import EXAMPLE, EXAMPLE_BYTES, EXAMPLE_TEXT, WORKED, flat, lasting_plan, questions, some_plan
+from rules import CLAIMS, LARGEST, MONTHS, MOST_ASKED, PLACES, S, SURVIVE, Question, all_months, ask_checks, bounds, byte_length, count_row, down
+from rules import failure_bounds, failure_checks, failure_rule, largest_level, month_rule, plan_of
+from rules import read_bytes, refusal, report, totals, unrounded, up, workspace_needed, write_bytes
 
 
 class Tally:
@@ -28,16 +28,17 @@ class Tally:
         print("failed" if self.failed else "ok")
 
 
-def check_bounds(tally, name, plan, weight, pair, about):
+def check_bounds(tally, name, plan, months, weight, pair, about):
+    """The gap rule counts the first so many months."""
     tally.check(f"{name}: enclosure", encloses(plan, weight, *pair), about)
-    tally.check(f"{name}: gap", keeps_gap(plan, *pair), about)
+    tally.check(f"{name}: gap", keeps_gap(plan, months, *pair), about)
 
 
 def check_question(tally, plan, listed, question):
     about, opening = (plan, question), plan.head.opening
     weight, whole = question_weight(listed, question), S ** (2 * len(plan.chances))
     p, f = [Fraction(chance, S) for chance in plan.chances], claim_chance(plan)
-    check_bounds(tally, "questions", plan, weight, bounds(plan, question), about)
+    check_bounds(tally, "questions", plan, plan.head.months, weight, bounds(plan, question), about)
     tally.check("histories carried together weigh W", carried_weight(plan, question) == weight, about)
     tally.check("unrounded month rule is W", month_rule(plan, question, unrounded) * whole == weight * S, about)
     if question.word == "survive":
@@ -53,8 +54,35 @@ def check_count_row(tally, plan, listed):
     for k, (lower, upper, value) in enumerate(zip(*rows)):
         weight = count_weight(listed, k)
         tally.check("histories carried together weigh W", counts[k] == weight, (plan, k))
-        check_bounds(tally, "count row", plan, weight, (lower, upper), (plan, k))
+        check_bounds(tally, "count row", plan, plan.head.months, weight, (lower, upper), (plan, k))
         tally.check("unrounded count row is W", value * whole == weight * S, (plan, k))
+
+
+def check_failures(tally, name, plan, weights, surviving):
+    """Every month's bounds, and their totals, from the weights of first ruin by month and that of survival."""
+    pairs = {t: failure_bounds(plan, t) for t in all_months(plan.head)}
+    for t, pair in pairs.items():
+        check_bounds(tally, name, plan, t, weights[t], pair, (plan, t))
+    lower, upper = totals([*pairs.values(), bounds(plan, SURVIVE)])
+    tally.check(f"{name}: with survival they weigh S^(2n)", sum(weights.values()) + surviving == S ** (2 * plan.head.months), plan)
+    tally.check(f"{name}: S lies between the totals with survival", lower <= S <= upper, plan)
+
+
+def later_changed(plan, t):
+    """Every chance after month t is another."""
+    return plan._replace(chances=plan.chances[:t] + [0 if chance else S for chance in plan.chances[t:]])
+
+
+def check_listed_failures(tally, plan, listed):
+    months, whole = all_months(plan.head), S ** (2 * plan.head.months)
+    weights, together = {t: failure_weight(listed, t) for t in months}, carried_failures(plan)
+    check_failures(tally, "failures", plan, weights, question_weight(listed, SURVIVE))
+    for t in months:
+        tally.check("histories carried together weigh W", together[t] == weights[t], (plan, t))
+        tally.check("unrounded failure rule is W", failure_rule(plan, t, unrounded) * whole == weights[t] * S, (plan, t))
+        other = later_changed(plan, t)
+        tally.check("failures: later months have no part", failure_bounds(other, t) == failure_bounds(plan, t), (plan, t))
+        tally.check("failures: later months have no part in W", carried_failures(other)[t] == weights[t], (plan, t))
 
 
 def check_plan(tally, plan):
@@ -64,17 +92,19 @@ def check_plan(tally, plan):
     for question in questions(head):
         check_question(tally, plan, listed, question)
     check_count_row(tally, plan, listed)
+    check_listed_failures(tally, plan, listed)
 
 
 def check_long_plan(tally, plan):
     """A plan of as many months as there can be."""
-    top = largest_level(plan.head)
+    top, months = largest_level(plan.head), plan.head.months
     levels = (Question(word, level) for word in ("high", "low") for level in (1, 2, plan.head.opening, top // 2, top - 1))
     for question in (SURVIVE, Question("both", 1), Question("both", CLAIMS), *levels):
-        check_bounds(tally, "long plans", plan, carried_weight(plan, question), bounds(plan, question), (plan, question))
+        check_bounds(tally, "long plans", plan, months, carried_weight(plan, question), bounds(plan, question), (plan, question))
     counts = carried_counts(plan)
     for k, pair in enumerate(zip(count_row(plan, down), count_row(plan, up))):
-        check_bounds(tally, "long plans, count row", plan, counts[k], pair, (plan, k))
+        check_bounds(tally, "long plans, count row", plan, months, counts[k], pair, (plan, k))
+    check_failures(tally, "long plans, failures", plan, carried_failures(plan), carried_weight(plan, SURVIVE))
 
 
 def check_paper(tally):
@@ -85,6 +115,10 @@ def check_paper(tally):
         tally.check("funds worked by hand", got == number and (lower is None or answer == (lower, upper)), (head, row, question))
     tally.check("report example: bytes", write_bytes(*EXAMPLE) == EXAMPLE_BYTES, EXAMPLE_BYTES.hex())
     tally.check("report example: text", report(EXAMPLE_BYTES) == EXAMPLE_TEXT, report(EXAMPLE_BYTES))
+    no_months = report(write_bytes(*flat(0, 7, 3)))
+    tally.check("report with no months: text", no_months.endswith(f"low 8 {S} {S}\nfails all 0 0\n"), no_months)
+    for t, room, number in ((0, 8, 10), (1, 8, 0), (2, 8, 0), (3, 8, 10), (0, 0, 10), (1, 7, 11), (2, 7, 11), (3, 0, 10)):
+        tally.check("failures of the example: refusals", refusal(failure_checks(*EXAMPLE, t, room)) == number, (t, room))
     tally.check("count row", PLACES == 121, f"{PLACES} places")
     tally.check("longest plan", byte_length(LARGEST) == 1712, f"{byte_length(LARGEST)} bytes")
     largest = 4 * workspace_needed(LARGEST, MOST_ASKED)

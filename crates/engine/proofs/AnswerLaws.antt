@@ -1,118 +1,199 @@
 -- Laws of an answer: what is known where nothing is refused, and the answer and the workspace from what the two halves give.
 use mathlib.Core.Path.{_≡_, refl, sym, _∙_, ap}
-use mathlib.Core.Bool.{Bool, true, false, cond}
+use mathlib.Core.Bool.{false}
 use mathlib.Core.List.{List, _++_}
 use Prim.Native.Nat.{ℕ, zero, suc, _+_, _*_, _-_, _≤_, _<_}
-use native.Mathlib.Nat.{mul-assoc, mul-comm}
+use native.Mathlib.Nat.{le-refl, mul-assoc, mul-comm, one-mul, zero-add, zero-mul}
 use native.Mathlib.Omega.{arith}
-use lib.Dec.{ltb, eqb}
-use lib.ListN.{length, take, drop, replicate}
-use lib.Seq.{length-take-le}
-use borrow.Author.Tests.{ne-eqb, ltb-false}
+use lib.ListN.{length, getD, take, drop, replicate}
+use lib.Seq.{length-take-le, take-all, take-take, getD-take}
+use borrow.Author.Tests.{ne-eqb}
 use Rattle.model.specs.declared.Head.{Head}
 use Rattle.model.specs.declared.Ask.{Ask}
 use Rattle.model.specs.declared.Question.{Question}
-use Rattle.model.specs.Scale.{S, Rounding}
-use Rattle.model.specs.Sums.{total}
-use Rattle.model.specs.Plan.{Plan, plan-of, row-length}
-use Rattle.model.specs.Levels.{row-levels}
-use Rattle.model.specs.MonthRule.{month, value, values, all-placed}
-use Rattle.model.specs.Bounds.{Encloses, bound, lower, upper}
-use Rattle.model.specs.Refusal.{plan-refusal, outside, rows-needed, workspace-needed, ask-refusal}
-use Rattle.model.proofs.Facts.{Facts}
+use Rattle.model.specs.declared.Question.the-variants.{Survive}
+use Rattle.model.specs.Scale.{Rounding}
+use Rattle.model.specs.Plan.{Plan, nth, plan-of, row-length}
+use Rattle.model.specs.Levels.{largest-level, row-levels}
+use Rattle.model.specs.MonthRule.{month, values, value, all-placed, last-of, ruin-row, carried-back}
+use Rattle.model.specs.Bounds.{Encloses, bound, ruin-bound}
+use Rattle.model.specs.Refusal.{outside, rows-needed, workspace-needed}
+use Rattle.model.proofs.LevelLaws.{level-later}
+use Rattle.model.proofs.Facts.{Facts, horizon-is}
 use Rattle.model.proofs.Rooms.{rows-few}
 use Rattle.engine.specs.declared.Answer.{Answer}
-use Rattle.month_rule.specs.Rows.{Parts}
-use Rattle.month_rule.specs.Shapes.{rows-size, rule-by}
+use Rattle.engine.specs.declared.bounds.LastRows.{LastRows}
+use Rattle.engine.specs.declared.bounds.LastRows.the-variants.{Placed, Ruin}
+use Rattle.month_rule.specs.declared.rows.Shape.{Shape}
+use Rattle.month_rule.specs.Rows.{Parts, PlanTerms, Replaced}
+use Rattle.month_rule.specs.Shapes.{rows-size, values-in, rule-by}
 use Rattle.month_rule.proofs.RowLaws.{parts-part}
+use Rattle.ruin_rows.specs.Terms.{RuinTerms}
 use Rattle.engine.specs.Questions.{shape-of}
-use Rattle.engine.specs.Answers.{answer, workspace-after}
-use Rattle.engine.proofs.AskLaws.{ask-refusal-is, shape-rows, shape-width, shape-value}
-
--- what is known of an ask that is not refused
-pub record Asked (a : Ask) (row : List ℕ) (room : ℕ) : Type 0 where
-  pub accepted : plan-refusal (a .head) row ≡ 0
-  pub inside : outside (a .question) ≡ false
-  pub enough : workspace-needed a ≤ room
-
-pub asked : (a : Ask) (row : List ℕ) (room : ℕ) → ask-refusal a row room ≡ 0 → Asked a row room
-asked a row room e =
-    go (plan-refusal (a .head) row) refl (outside (a .question)) refl (ltb room (workspace-needed a)) refl (sym (ask-refusal-is a row room) ∙ e)
-  where
-    go :
-        (n : ℕ) → plan-refusal (a .head) row ≡ n → (o : Bool) → outside (a .question) ≡ o → (s : Bool) → ltb room (workspace-needed a) ≡ s →
-        cond (eqb n 0) (cond o 10 (cond s 11 0)) n ≡ 0 → Asked a row room
-    go zero en true eo s es e = absurd (omega (arith, e))
-    go zero en false eo true es e = absurd (omega (arith, e))
-    go zero en false eo false es e = record { accepted = en; inside = eo; enough = ltb-false room (workspace-needed a) es }
-    go (suc n) en o eo s es e = absurd (omega (arith, rw (ne-eqb (suc n) 0 (λ z. omega arith)) at e))
+use Rattle.engine.specs.LastRows.{last-rows, LastFits, opening-value}
+use Rattle.engine.specs.Answers.{refused, bounds-answer, cleared-after}
+use Rattle.engine.proofs.AskLaws.{shape-rows, shape-width, last-agree, shape-value}
 
 -- the answer and the workspace of a refusal
-pub answer-refused :
-    (a : Ask) (row : List ℕ) (room n : ℕ) → n ≡ ask-refusal a row room → (n ≡ 0 → ⊥) →
-    _≡_ {A = Answer} (record { refusal = n; lower = 0; upper = 0 }) (answer a row room)
-unfolding answer
-answer-refused a row room n e ne = rw (← e, ne-eqb n 0 ne)
+pub refused-out :
+    (r : Answer) (n number needed low high : ℕ) (ws : List ℕ) → r ≡ refused n → n ≡ number → (n ≡ 0 → ⊥) →
+    (r ≡ bounds-answer number low high) × (ws ≡ cleared-after number needed ws) × (r .refusal ≡ 0 → ⊥)
+unfolding refused bounds-answer cleared-after
+refused-out r n number needed low high ws er e ne =
+    (rw (er, ← e, ne-eqb n 0 ne), rw (← e, ne-eqb n 0 ne), λ z. ne (sym (ap (λ (a : Answer). a .refusal) er) ∙ z))
 
-pub workspace-refused :
-    (a : Ask) (row ws : List ℕ) (n : ℕ) → n ≡ ask-refusal a row (length ws) → (n ≡ 0 → ⊥) → ws ≡ workspace-after a row ws
-unfolding workspace-after
-workspace-refused a row ws n e ne = rw (← e, ne-eqb n 0 ne)
-
--- and of an answer
-pub answer-given :
-    (a : Ask) (row : List ℕ) (room low high : ℕ) → ask-refusal a row room ≡ 0 →
-    low ≡ lower (plan-of (a .head) row) (a .question) → high ≡ upper (plan-of (a .head) row) (a .question) →
-    _≡_ {A = Answer} (record { refusal = 0; lower = low; upper = high }) (answer a row room)
-unfolding answer
-answer-given a row room low high e el eh = rw (e, el, eh)
-
+-- and of an answer that was worked out
 pub workspace-cleared :
-    (a : Ask) (row ws front : List ℕ) → ask-refusal a row (length ws) ≡ 0 → workspace-needed a ≤ length ws →
-    front ≡ replicate (length (take (workspace-needed a) ws)) 0 → front ++ drop (workspace-needed a) ws ≡ workspace-after a row ws
-unfolding workspace-after
-workspace-cleared a row ws front e fits ef =
-    let count : length (take (workspace-needed a) ws) ≡ workspace-needed a = length-take-le (workspace-needed a) ws fits in
-    rw (e, ef, count)
+    (number needed m : ℕ) (ws : List ℕ) → number ≡ 0 → m ≡ needed → replicate m 0 ++ drop m ws ≡ cleared-after number needed ws
+unfolding cleared-after
+workspace-cleared number needed m ws e em = rw (e, em)
+
+-- the answer that the bounds give
+pub answer-worked : (low high low′ high′ : ℕ) → low ≡ low′ → high ≡ high′ → _≡_ {A = Answer} (record { refusal = 0; lower = low; upper = high }) (bounds-answer 0 low′ high′)
+unfolding bounds-answer
+answer-worked low high low′ high′ el eh = rw (el, eh)
+
+-- what was worked out is the call's answer, and what holds of the bounds holds of its numbers
+pub worked-out :
+    {p : Plan} {gap-months : List ℕ} {W : ℕ} (r : Answer) (number : ℕ) {low high low′ high′ : ℕ} →
+    r ≡ bounds-answer 0 low high → low ≡ low′ → high ≡ high′ → number ≡ 0 → Encloses p gap-months W low′ high′ →
+    (r ≡ bounds-answer number low′ high′) × Encloses p gap-months W (r .lower) (r .upper)
+unfolding bounds-answer
+worked-out r number worked el eh e encloses =
+    (rw (e, ← el, ← eh) worked, rw (ap (λ (a : Answer). a .lower) worked ∙ el, ap (λ (a : Answer). a .upper) worked ∙ eh) encloses)
 
 -- the two halves are what is needed
-pub needed-halves : (a : Ask) (width : ℕ) → width ≡ row-levels (a .head .opening) (a .head .months) → workspace-needed a ≡ 2 * rows-size (shape-of (a .question) width)
+pub needed-halves : (a : Ask) (width : ℕ) → width ≡ row-levels (a .head .opening) (a .head .months) → 2 * rows-size (shape-of (a .question) width) ≡ workspace-needed a
 unfolding workspace-needed
 needed-halves a width e =
     rw (shape-rows (a .question) width, shape-width (a .question) width, ← e)
-    (mul-assoc 2 width (rows-needed (a .question)) ∙ ap (λ n. 2 * n) (mul-comm width (rows-needed (a .question))))
+    (ap (λ n. 2 * n) (mul-comm (rows-needed (a .question)) width) ∙ sym (mul-assoc 2 width (rows-needed (a .question))))
 
--- what the bounds ask of the plan's row
-pub chances-parts : (h : Head) (row : List ℕ) → Facts h row → Parts (take (h .months) row)
-chances-parts h row f = parts-part row 0 (h .months) (record { each = f .numbers-fit })
-
-pub severity-fits : (h : Head) (row : List ℕ) → Facts h row → total (take (h .months + h .sizes - h .months) (drop (h .months) row)) ≤ S
+-- what the bounds ask of the plan's row, as it is lent: the first months, the weights, and over
+pub chances-lent : (h : Head) (row : List ℕ) (months : ℕ) → months ≤ h .months → take months row ≡ take months (plan-of h row .chances)
 unfolding plan-of
-severity-fits h row f =
-    let sizes : h .months + h .sizes - h .months ≡ h .sizes = omega arith in
-    rw sizes (omega (arith, f .weights-add))
+chances-lent h row months l = sym (take-take months (h .months) row l)
 
-pub months-count : (h : Head) (row : List ℕ) → length row ≡ row-length h → length (take (h .months) row) ≡ h .months
-months-count h row e = length-take-le (h .months) row (omega arith)
+pub severity-lent : (h : Head) (row : List ℕ) → take (h .months + h .sizes - h .months) (drop (h .months) row) ≡ plan-of h row .severity
+unfolding plan-of
+severity-lent h row = let sizes : h .months + h .sizes - h .months ≡ h .sizes = omega arith in rw sizes
 
--- the value that a half gives, by the question
-pub bound-is :
-    (h : Head) (row : List ℕ) → length row ≡ row-length h → (q : Question) → outside q ≡ false →
-    (round : Rounding) (width r : ℕ) → width ≡ row-levels (h .opening) (h .months) →
+tail-lent : (h : Head) (row : List ℕ) → getD row (h .months + h .sizes) 0 ≡ plan-of h row .tail
+unfolding plan-of
+tail-lent h row = refl
+
+pub chances-parts : (h : Head) (row : List ℕ) → Facts h row → (months : ℕ) → Parts (take months row)
+chances-parts h row f months = parts-part row 0 months (record { each = f .numbers-fit })
+
+pub terms-lent :
+    (h : Head) (row : List ℕ) → Facts h row → (months : ℕ) → PlanTerms (take (h .months + h .sizes - h .months) (drop (h .months) row)) (take months row)
+terms-lent h row f months =
+    record {
+      weights-fit = rw (severity-lent h row) (omega (arith, f .weights-add));
+      chances-fit = chances-parts h row f months;
+    }
+
+-- the levels that the months reach lie within the rows
+pub levels-fit :
+    (h : Head) (row : List ℕ) → length row ≡ row-length h → (months width : ℕ) → months ≤ h .months → width ≡ row-levels (h .opening) (h .months) →
+    largest-level (h .opening) (length (take months row)) < width
+levels-fit h row row-is months width l e =
+    let count : length (take months row) ≡ months = length-take-le months row (omega arith) in
+    rw count (omega (arith, level-later (h .opening) months (h .months) l))
+
+-- there is a row
+pub some-row : (last : LastRows) (shape : Shape) (F : List ℕ) (tail : ℕ) → LastFits last shape F tail → 0 < shape .rows
+unfolding LastFits
+some-row Placed shape F tail h = h
+some-row (Ruin P) shape F tail h = omega (arith, h .0)
+
+-- what the last rows ask, and the value that they give, of the parts as they are lent
+pub last-lent :
+    (last : LastRows) (shape : Shape) (h : Head) (row : List ℕ) → LastFits last shape (plan-of h row .severity) (plan-of h row .tail) →
+    LastFits last shape (take (h .months + h .sizes - h .months) (drop (h .months) row)) (getD row (h .months + h .sizes) 0)
+last-lent last shape h row fits = rw (severity-lent h row, tail-lent h row) fits
+
+pub value-lent :
+    (round : Rounding) (h : Head) (row : List ℕ) (months : ℕ) (shape : Shape) (last : LastRows) (r : ℕ) → months ≤ h .months →
     r
-    ≡ values (month round (take (h .months + h .sizes - h .months) (drop (h .months) row))) (rule-by (shape-of q width)) all-placed (take (h .months) row)
-    (shape-of q width .rows - 1) (h .opening) →
-    r ≡ bound round (plan-of h row) q
-unfolding bound value plan-of
-bound-is h row row-is q inside round width r ew e =
-    let some-row : 0 < shape-of q width .rows = omega (arith, shape-rows q width, rows-few q inside) in
-    let sizes : h .months + h .sizes - h .months ≡ h .sizes = omega arith in
-    rw sizes at e
-    ∙ shape-value round (take (h .sizes) (drop (h .months) row)) (take (h .months) row) q (h .opening) width
-    (rw (months-count h row row-is) ew) some-row
+    ≡ values (month round (take (h .months + h .sizes - h .months) (drop (h .months) row))) (rule-by shape)
+    (last-rows last round (take (h .months + h .sizes - h .months) (drop (h .months) row)) (getD row (h .months + h .sizes) 0)) (take months row)
+    (shape .rows - 1) (h .opening) →
+    r ≡ opening-value round (plan-of h row) months shape last
+unfolding plan-of
+value-lent round h row months shape last r l e =
+    rw (severity-lent h row, chances-lent h row months l) at e
 
--- enclosure of numbers that are the bounds
-pub encloses-as :
-    {p : Plan} {gap-months : List ℕ} {W low low′ high high′ : ℕ} → low ≡ low′ → high ≡ high′ → Encloses p gap-months W low′ high′ →
-    Encloses p gap-months W low high
-encloses-as el eh e = rw (el, eh) e
+-- what the row before a month that ruins needs, of an accepted plan and the shape of survive
+pub ruin-fits :
+    (h : Head) (row : List ℕ) → Facts h row → (i : ℕ) (shape : Shape) (width : ℕ) → shape ≡ shape-of Survive width →
+    LastFits (Ruin (getD row i 0)) shape (plan-of h row .severity) (plan-of h row .tail)
+unfolding LastFits shape-of
+ruin-fits h row f i shape width e =
+    (ap (λ (s : Shape). s .rows) e, record { weights-fit = omega (arith, f .weights-add); chance-fits = f .numbers-fit i })
+
+-- the last rows, by the claims left and the level: where all claims are placed …
+pub placed-values :
+    (last : LastRows) → last ≡ Placed → (round : Rounding) (shape : Shape) (F : List ℕ) (tail : ℕ) (xs : List ℕ) →
+    ((top : ℕ) → top < shape .width → (k : ℕ) → k < shape .rows → (s : ℕ) → values-in shape top xs k s ≡ all-placed k s) →
+    (top : ℕ) → top < shape .width → (k : ℕ) → k < shape .rows → (s : ℕ) → s ≤ top → values-in shape top xs k s ≡ last-rows last round F tail k s
+unfolding last-rows
+placed-values last e round shape F tail xs h top l k m s n = rw e (h top l k m s)
+
+-- … and before a ruin
+pub ruin-terms : (last : LastRows) (P : ℕ) → last ≡ Ruin P → (shape : Shape) (F : List ℕ) (tail : ℕ) → LastFits last shape F tail → (shape .rows ≡ 1) × RuinTerms F tail P
+unfolding LastFits
+ruin-terms last P e shape F tail h = rw e at h
+
+pub one-row : (shape : Shape) → shape .rows ≡ 1 → rows-size shape ≡ shape .width
+one-row shape one = rw one (one-mul (shape .width))
+
+pub ruin-values :
+    (last : LastRows) (P : ℕ) → last ≡ Ruin P → (round : Rounding) (shape : Shape) (F : List ℕ) (tail top : ℕ) (zeros xs xs′ : List ℕ) → shape .rows ≡ 1 →
+    xs′ ≡ xs → Replaced 0 (top + 1) (λ i. ruin-row round F tail P (top - i)) zeros xs →
+    (k : ℕ) → k < shape .rows → (s : ℕ) → s ≤ top → values-in shape top xs′ k s ≡ last-rows last round F tail k s
+unfolding last-rows
+ruin-values last P e round shape F tail top zeros xs xs′ one same h k l s m =
+    let first : shape .rows - 1 - k ≡ 0 = omega arith in
+    let level : top - (top - s) ≡ s = omega arith in
+    rw (e, same, first, zero-mul (shape .width)) (rw (zero-add, level) at (h .inside (top - s) (omega arith)))
+
+-- The value at the opening is the question's bound, where all months are worked …
+pub bound-is :
+    (round : Rounding) (h : Head) (row : List ℕ) → length row ≡ row-length h → (q : Question) → outside q ≡ false →
+    (width : ℕ) → width ≡ row-levels (h .opening) (h .months) →
+    opening-value round (plan-of h row) (h .months) (shape-of q width) Placed ≡ bound round (plan-of h row) q
+unfolding bound value last-rows plan-of
+bound-is round h row row-is q inside width ew =
+    let some-row : 0 < shape-of q width .rows = omega (arith, shape-rows q width, rows-few q inside) in
+    let months = horizon-is h row row-is in
+    rw (take-all (h .months) (plan-of h row .chances) (omega (arith, months)))
+    (shape-value round (plan-of h row .severity) (plan-of h row .chances) q (plan-of h row .opening) (largest-level (h .opening) (h .months)) width ew
+    (rw months (le-refl (largest-level (h .opening) (h .months)))) some-row all-placed (last-of q) (λ k l s. last-agree q width k l s))
+
+-- the chance of a month, as it lies in the row
+pub chance-is : (h : Head) (row : List ℕ) (t : ℕ) → 0 < t → t ≤ h .months → getD row (t - 1) 0 ≡ nth (plan-of h row .chances) t
+unfolding nth plan-of
+chance-is h row zero some l = absurd (omega arith)
+chance-is h row (suc i) some l =
+    let index : suc i - 1 ≡ i = omega arith in
+    rw index (sym (getD-take (h .months) row i 0 l))
+
+-- … and that of ruin in a month, where the months before it are.
+pub ruin-bound-is :
+    (round : Rounding) (h : Head) (row : List ℕ) → length row ≡ row-length h → (t : ℕ) → 0 < t → t ≤ h .months →
+    (width : ℕ) → width ≡ row-levels (h .opening) (h .months) → (P : ℕ) → P ≡ getD row (t - 1) 0 →
+    opening-value round (plan-of h row) (t - 1) (shape-of Survive width) (Ruin P) ≡ ruin-bound round (plan-of h row) t
+unfolding ruin-bound carried-back last-rows plan-of rows-needed
+ruin-bound-is round h row row-is t some l width ew P eP =
+    let months = horizon-is h row row-is in
+    let early : length (take (t - 1) (plan-of h row .chances)) ≡ t - 1 = length-take-le (t - 1) (plan-of h row .chances) (omega arith) in
+    rw (eP ∙ chance-is h row t some l)
+    (shape-value round (plan-of h row .severity) (take (t - 1) (plan-of h row .chances)) Survive (plan-of h row .opening) (largest-level (h .opening) (h .months))
+    width ew (earlier (length (take (t - 1) (plan-of h row .chances))) (omega arith)) (rw (shape-rows Survive width) one-row) _ _ (λ k m s. refl))
+  where
+    earlier : (n : ℕ) → n ≤ h .months → largest-level (plan-of h row .opening) n ≤ largest-level (h .opening) (h .months)
+    earlier n m = level-later (h .opening) n (h .months) m
+
+    one-row : 0 < rows-needed Survive
+    one-row = omega arith

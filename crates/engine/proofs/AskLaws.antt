@@ -1,5 +1,5 @@
--- Laws of a question's refusal and of its shape: which rows it needs, and that their rule has the question's values.
-use mathlib.Core.Path.{_≡_, refl, sym}
+-- Laws of the refusal of a call that answers two bounds, and of a question's shape: which rows it needs, and that their rule has the question's values.
+use mathlib.Core.Path.{_≡_, refl, sym, _∙_}
 use mathlib.Core.Logic.{⊎-elim}
 use mathlib.Core.Bool.{Bool, true, false, _&&_, cond}
 use mathlib.Core.List.{List, [], _∷_}
@@ -8,30 +8,92 @@ use Prim.Native.Nat.{ℕ, zero, suc, _+_, _-_, _≤_, zero-le, _<_}
 use native.Mathlib.Omega.{arith}
 use lib.Dec.{leb, ltb, eqb}
 use lib.ListN.{length}
-use borrow.Author.Tests.{le-leb, lt-leb, lt-ltb, le-ltb}
-use Rattle.model.specs.declared.Ask.{Ask}
+use borrow.Author.Tests.{le-leb, lt-leb, lt-ltb, le-ltb, ne-eqb, ltb-false, eqb-false}
+use Rattle.model.specs.declared.Head.{Head}
 use Rattle.model.specs.declared.Question.{Question}
 use Rattle.model.specs.declared.Question.the-variants.{Survive, Both, High, Low}
-use Rattle.model.specs.Levels.{largest-level, row-levels}
+use Rattle.model.specs.Sums.{all}
+use Rattle.model.specs.Levels.{largest-level}
 use Rattle.model.specs.Scale.{S, Rounding}
 use Rattle.model.specs.MonthRule.{Row, month, values, rule-of, last-of, claims-of, claimed-row, all-placed, one-fewer}
-use Rattle.model.specs.Refusal.{first, plan-refusal, outside, rows-needed, workspace-needed, ask-refusal}
-use Rattle.model.proofs.Facts.{plan-first}
+use Rattle.model.specs.Refusal.{first, head-checks, length-check, number-checks, plan-checks, plan-refusal, Accepted, rows-needed, asked-checks, month-outside, room-check, bounds-refusal}
+use Rattle.model.proofs.Facts.{neither, not-zero, numbered, first-append, none-fits, none-fits-append, plan-numbered, plan-first}
 use Rattle.month_rule.specs.Rows.{between, after-claim-by}
 use Rattle.month_rule.specs.Shapes.{rule-by}
 use Rattle.month_rule.proofs.ValueLaws.{below-or-not}
 use Rattle.month_rule.proofs.AllMonths.{Agree, values-agree}
 use Rattle.engine.specs.Questions.{shape-of}
 
--- the checks after those of the plan
-pub ask-refusal-is :
-    (a : Ask) (row : List ℕ) (room : ℕ) →
-    ask-refusal a row room
-    ≡ cond (eqb (plan-refusal (a .head) row) 0)
-    (cond (outside (a .question)) 10 (cond (ltb room (workspace-needed a)) 11 0))
-    (plan-refusal (a .head) row)
-unfolding ask-refusal first
-ask-refusal-is a row room = plan-first (a .head) row ((10, outside (a .question)) ∷ (11, ltb room (workspace-needed a)) ∷ [])
+-- the checks after those of the plan, and after those of what is asked
+pub asked-is :
+    (h : Head) (row : List ℕ) (o : Bool) → first (asked-checks h row o) ≡ cond (eqb (plan-refusal h row) 0) (cond o 10 0) (plan-refusal h row)
+unfolding asked-checks first
+asked-is h row o = plan-first h row ((10, o) ∷ [])
+
+asked-numbered : (h : Head) (row : List ℕ) (o : Bool) → numbered (asked-checks h row o) ≡ true
+unfolding all asked-checks plan-checks head-checks length-check number-checks
+asked-numbered h row o = refl
+
+pub bounds-refusal-is :
+    (h : Head) (row : List ℕ) (o : Bool) (needed room : ℕ) →
+    bounds-refusal h row o needed room
+    ≡ cond (eqb (first (asked-checks h row o)) 0) (first (room-check needed room ∷ [])) (first (asked-checks h row o))
+unfolding bounds-refusal
+bounds-refusal-is h row o needed room = first-append (asked-checks h row o) (room-check needed room ∷ []) (asked-numbered h row o)
+
+-- so a call's number is that of the earlier checks, or of the workspace where none of them fits
+pub refused-early :
+    (h : Head) (row : List ℕ) (o : Bool) (needed room n : ℕ) → n ≡ first (asked-checks h row o) → (n ≡ 0 → ⊥) → n ≡ bounds-refusal h row o needed room
+refused-early h row o needed room n e ne = rw (bounds-refusal-is h row o needed room, ← e, ne-eqb n 0 ne)
+
+pub refused-late :
+    (h : Head) (row : List ℕ) (o : Bool) (needed room n r : ℕ) → n ≡ first (asked-checks h row o) → n ≡ 0 → r ≡ first (room-check needed room ∷ []) →
+    r ≡ bounds-refusal h row o needed room
+refused-late h row o needed room n r e z f = rw (bounds-refusal-is h row o needed room, ← e, z) f
+
+pub room-is : (needed room : ℕ) → first (room-check needed room ∷ []) ≡ cond (ltb room needed) 11 0
+unfolding first
+room-is needed room = refl
+
+-- what is known of a plan and of what is asked of it, where no check fits, and of the workspace too
+pub record Asked (h : Head) (row : List ℕ) (o : Bool) (needed room : ℕ) : Type 0 where
+  pub accepted : Accepted h row
+  pub inside : o ≡ false
+  pub enough : needed ≤ room
+
+pub asked-inside : (h : Head) (row : List ℕ) (o : Bool) → first (asked-checks h row o) ≡ 0 → Accepted h row × (o ≡ false)
+unfolding asked-checks plan-refusal
+asked-inside h row o e =
+    let parts = none-fits-append (plan-checks h row) ((10, o) ∷ []) (plan-numbered h row) e in
+    (parts .0, none-fits 9 o [] (parts .1) .0)
+
+pub asked : (h : Head) (row : List ℕ) (o : Bool) (needed room : ℕ) → bounds-refusal h row o needed room ≡ 0 → Asked h row o needed room
+unfolding bounds-refusal
+asked h row o needed room e =
+    let parts = none-fits-append (asked-checks h row o) (room-check needed room ∷ []) (asked-numbered h row o) e in
+    let known = asked-inside h row o (parts .0) in
+    record {
+      accepted = known .0;
+      inside = known .1;
+      enough = ltb-false room needed (none-fits 10 (ltb room needed) [] (parts .1) .0);
+    }
+
+-- a month that is not outside
+pub month-inside : (h : Head) (t : ℕ) → month-outside h t ≡ false → (0 < t) × (t ≤ h .months)
+unfolding month-outside
+month-inside h t e =
+    let parts = neither (eqb t 0) (ltb (h .months) t) e in
+    (not-zero (eqb-false t 0 (parts .0)), ltb-false (h .months) t (parts .1))
+
+pub inside-month : (h : Head) (t : ℕ) → 0 < t → t ≤ h .months → month-outside h t ≡ false
+unfolding month-outside
+inside-month h t above l = rw (ne-eqb t 0 (λ z. omega (arith, z)), le-ltb (h .months) t l)
+
+-- and the other way round: nothing refuses
+pub not-refused : {h : Head} {row : List ℕ} {o : Bool} {needed room : ℕ} → Asked h row o needed room → bounds-refusal h row o needed room ≡ 0
+not-refused {h} {row} {o} {needed} {room} k =
+    bounds-refusal-is h row o needed room
+    ∙ rw (asked-is h row o, k .accepted, k .inside, room-is needed room, le-ltb room needed (k .enough))
 
 pub shape-rows : (q : Question) (width : ℕ) → shape-of q width .rows ≡ rows-needed q
 unfolding shape-of rows-needed
@@ -61,7 +123,7 @@ unfolding all-placed
 one-last zero l s = refl
 one-last (suc j) l s = absurd (omega arith)
 
-last-agree : (q : Question) (width j : ℕ) → j < shape-of q width .rows → (s : ℕ) → last-of q j s ≡ all-placed j s
+pub last-agree : (q : Question) (width j : ℕ) → j < shape-of q width .rows → (s : ℕ) → last-of q j s ≡ all-placed j s
 unfolding last-of shape-of
 last-agree Survive width j l s = one-last j l s
 last-agree (Both k) width j l s = refl
@@ -111,14 +173,13 @@ shape-agree (Both k) top = record { claimed = both-claimed (k + 1); allowed = al
 shape-agree (High L) top = record { claimed = one-claimed; allowed = λ s m. high-between L s }
 shape-agree (Low L) top = record { claimed = one-claimed; allowed = low-between L top }
 
--- the value of a question, from its shape
+-- The value of a question's rule, from its shape: over rows wide enough for the months, and last rows that agree where there is a row.
 pub shape-value :
-    (round : Rounding) (F Ps : List ℕ) (q : Question) (u width : ℕ) → width ≡ row-levels u (length Ps) → 0 < shape-of q width .rows →
-    values (month round F) (rule-by (shape-of q width)) all-placed Ps (shape-of q width .rows - 1) u
-    ≡ values (month round F) (rule-of q) (last-of q) Ps (claims-of q) u
-shape-value round F Ps q u width e p =
+    (round : Rounding) (F Ps : List ℕ) (q : Question) (u top width : ℕ) → width ≡ top + 1 → largest-level u (length Ps) ≤ top → 0 < shape-of q width .rows →
+    (last last′ : ℕ → Row) → ((j : ℕ) → j < shape-of q width .rows → (s : ℕ) → last′ j s ≡ last j s) →
+    values (month round F) (rule-by (shape-of q width)) last Ps (shape-of q width .rows - 1) u ≡ values (month round F) (rule-of q) last′ Ps (claims-of q) u
+shape-value round F Ps q u top width e l p last last′ same =
     rw (claims-last q width)
     (sym
-    (values-agree round F (rule-of q) (rule-by (shape-of q width)) (shape-of q width .rows) (largest-level u (length Ps))
-    (rw e (shape-agree q (largest-level u (length Ps)))) (last-of q) all-placed (λ j l s m. last-agree q width j l s)
-    Ps (shape-of q width .rows - 1) u (omega arith) (omega arith)))
+    (values-agree round F (rule-of q) (rule-by (shape-of q width)) (shape-of q width .rows) top (rw e (shape-agree q top)) last′ last (λ j l s m. same j l s)
+    Ps (shape-of q width .rows - 1) u (omega arith) l))

@@ -4,3 +4,5 @@ pub mod AskLaws
 mod AnswerLaws
 -- the count row
 mod CountLaws
+-- several calls together
+pub mod Theorems

@@ -14,26 +14,40 @@ use Rattle.model.specs.Limits.{places}
 use Rattle.model.specs.Scale.{down, up}
 use Rattle.model.specs.Plan.{Plan, plan-of}
 use Rattle.model.specs.CountRow.{count-row, tabulate}
-use Rattle.model.specs.Bounds.{lower, upper}
-use Rattle.model.specs.Refusal.{ask-refusal, count-refusal, workspace-needed}
+use Rattle.model.specs.Bounds.{lower, upper, ruin-lower, ruin-upper}
+use Rattle.model.specs.Refusal.{ask-refusal, ruin-refusal, count-refusal, workspace-needed, ruin-workspace}
 
--- the answer to an ask, over the plan's row and a workspace of the given length
+-- the answer of a refusal
+unfoldable pub refused : ℕ → Answer
+refused number = record { refusal = number; lower = 0; upper = 0 }
+
+-- the answer of a call that has two bounds, from its refusal's number and these bounds
+unfoldable pub bounds-answer : ℕ → ℕ → ℕ → Answer
+bounds-answer number low high = cond (eqb number 0) (record { refusal = 0; lower = low; upper = high }) (refused number)
+
+-- the workspace after it: "After an answered question the needed part of the desk is all zero. … What lies past it is untouched in every case."
+unfoldable pub cleared-after : ℕ → ℕ → List ℕ → List ℕ
+cleared-after number needed workspace = cond (eqb number 0) (replicate needed 0 ++ drop needed workspace) workspace
+
+-- an ask, over the plan's row and a workspace of the given length
 unfoldable pub answer : Ask → List ℕ → ℕ → Answer
-answer a row room =
-    cond (eqb number 0)
-    (record { refusal = 0; lower = lower p (a .question); upper = upper p (a .question) })
-    (record { refusal = number; lower = 0; upper = 0 })
+answer a row room = bounds-answer (ask-refusal a row room) (lower p (a .question)) (upper p (a .question))
   where
-    number : ℕ
-    number = ask-refusal a row room
-
     p : Plan
     p = plan-of (a .head) row
 
--- the workspace after it: "After an answered question the needed part of the desk is all zero. … What lies past it is untouched in every case."
-unfoldable pub workspace-after : Ask → List ℕ → List ℕ → List ℕ
-workspace-after a row workspace =
-    cond (eqb (ask-refusal a row (length workspace)) 0) (replicate (workspace-needed a) 0 ++ drop (workspace-needed a) workspace) workspace
+abbrev pub workspace-after : Ask → List ℕ → List ℕ → List ℕ
+workspace-after a row workspace = cleared-after (ask-refusal a row (length workspace)) (workspace-needed a) workspace
+
+-- ruin in a month
+unfoldable pub ruin-answer : Head → ℕ → List ℕ → ℕ → Answer
+ruin-answer h t row room = bounds-answer (ruin-refusal h t row room) (ruin-lower p t) (ruin-upper p t)
+  where
+    p : Plan
+    p = plan-of h row
+
+abbrev pub ruin-workspace-after : Head → ℕ → List ℕ → List ℕ → List ℕ
+ruin-workspace-after h t row workspace = cleared-after (ruin-refusal h t row (length workspace)) (ruin-workspace h) workspace
 
 -- "It comes back whole, as a row of … lower and a row of … upper bounds"
 unfoldable pub count-rows : List ℕ → CountRow

@@ -1,32 +1,71 @@
-// The two bounds of a question, worked in the workspace that it needs.
+// The two bounds of a call, worked in the workspace that it needs.
 ghost use mathlib.Core.Path.{_≡_};
-ghost use Prim.Native.Nat.{_*_, _-_, _<_};
-ghost use lib.ListN.{length, replicate};
+ghost use Prim.Native.Nat.{ℕ, _*_, _-_, _<_, _≤_};
+ghost use lib.ListN.{length, take, drop, replicate};
 ghost use Rattle.model.specs.Scale.{down, up};
 ghost use Rattle.model.specs.Levels.{largest-level};
-ghost use Rattle.model.specs.MonthRule.{month, values, all-placed};
-ghost use Rattle.month_rule.specs.Rows.{PlanTerms};
-ghost use Rattle.month_rule.specs.Shapes.{rows-size, rule-by};
+ghost use Rattle.model.specs.MonthRule.{month, values};
+ghost use Rattle.month_rule.specs.Rows.{Parts, PlanTerms};
+ghost use Rattle.month_rule.specs.Shapes.{rows-size, values-in, rule-by};
+ghost use Rattle.engine.specs.LastRows.{last-rows, LastFits};
+use model::GAIN;
 use month_rule::halves;
 use month_rule::halves::Bounds;
 use month_rule::rows::Shape;
+use ruin_rows::ruin_halves;
 
-// The values at the opening with all claims to place, from S at every level with none left; the halves are all 0 again.
-pub fn question_bounds(
+// The rows from which the months go back: S where all claims are placed, or those before a month with this chance in which the fund is ruined.
+pub enum LastRows {
+    Placed,
+    Ruin(u32),
+}
+
+// Both halves with their last rows, which have the level `top` at place 0.
+fn put_last(
+    halves: &mut [u32],
+    shape: Shape,
+    top: usize,
+    severity: &[u32],
+    tail: u32,
+    last: LastRows,
+)
+    requires { ⌜ (length (now halves) ≡ 2 * rows-size shape) × (top < shape .width) ⌝ }
+    requires { ⌜ LastFits last shape (now severity) tail ⌝ }
+    ensures lower { λ _.
+        ⌜ ((k : ℕ) → k < shape .rows → (s : ℕ) → s ≤ top →
+        values-in shape top (take (rows-size shape) (now (halves .exit))) k s ≡ last-rows last down (now (severity .entry)) tail k s) ⌝ }
+    ensures upper { λ _.
+        ⌜ ((k : ℕ) → k < shape .rows → (s : ℕ) → s ≤ top →
+        values-in shape top (drop (rows-size shape) (now (halves .exit))) k s ≡ last-rows last up (now (severity .entry)) tail k s) ⌝ }
+    ensures parts { λ _. ⌜ Parts (now (halves .exit)) ⌝ }
+{
+    match last {
+        LastRows::Placed => halves::last_halves(halves, shape),
+        LastRows::Ruin(chance) => ruin_halves(halves, shape.width, top, severity, tail, chance),
+    }
+}
+
+// The values at the opening with all claims to place, from the last rows; the halves are all 0 again.
+pub fn bounds_from(
     workspace: &mut [u32],
     shape: Shape,
     opening: usize,
     chances: &[u32],
     severity: &[u32],
+    tail: u32,
+    last: LastRows,
 ) -> Bounds
-    requires { ⌜ (0 < shape .rows) × (length (now workspace) ≡ 2 * rows-size shape) ⌝ }
-    requires { ⌜ largest-level opening (length (now chances)) < shape .width ⌝ }
+    requires { ⌜ (length (now workspace) ≡ 2 * rows-size shape) × (largest-level opening (length (now chances)) < shape .width) ⌝ }
     requires { ⌜ PlanTerms (now severity) (now chances) ⌝ }
-    ensures lower { λ r. ⌜ r .lower ≡ values (month down (now (severity .entry))) (rule-by shape) all-placed (now (chances .entry)) (shape .rows - 1) opening ⌝ }
-    ensures upper { λ r. ⌜ r .upper ≡ values (month up (now (severity .entry))) (rule-by shape) all-placed (now (chances .entry)) (shape .rows - 1) opening ⌝ }
+    requires { ⌜ LastFits last shape (now severity) tail ⌝ }
+    ensures lower { λ r.
+        ⌜ r .lower ≡ values (month down (now (severity .entry))) (rule-by shape) (last-rows last down (now (severity .entry)) tail) (now (chances .entry)) (shape .rows - 1) opening ⌝ }
+    ensures upper { λ r.
+        ⌜ r .upper ≡ values (month up (now (severity .entry))) (rule-by shape) (last-rows last up (now (severity .entry)) tail) (now (chances .entry)) (shape .rows - 1) opening ⌝ }
     ensures cleared { λ _. ⌜ now (workspace .exit) ≡ replicate (length (now (workspace .entry))) 0 ⌝ }
 {
-    halves::last_halves(workspace, shape);
+    let top = opening + GAIN * chances.len();
+    put_last(workspace, shape, top, severity, tail, last);
     halves::halves_back(workspace, shape, opening, chances, severity);
     halves::take_bounds(workspace, shape.rows * shape.width)
 }

@@ -1,20 +1,27 @@
-// The calls that the planner's programs make: the four questions and the count row.
+// The calls that the planner's programs make: the four questions, ruin in a month, and the count row.
+mod answers;
 mod bounds;
 mod counts;
 mod questions;
+mod refusals;
 
+use crate::answers::refused;
+use crate::answers::work_out;
+use crate::bounds::LastRows;
+use crate::questions::shape_of;
 use model::Ask;
 use model::Head;
+use model::Question;
 use model::limits;
-use plan::lengths;
+use plan::lengths::row_levels;
 ghost use mathlib.Core.Path.{_≡_};
 ghost use Prim.Native.Nat.{ℕ, _<_};
 ghost use lib.ListN.{length, getD};
 ghost use Rattle.model.specs.Limits.{places};
 ghost use Rattle.model.specs.Plan.{plan-of};
-ghost use Rattle.model.specs.Exact.{exact, exact-count};
-ghost use Rattle.model.specs.Bounds.{Encloses};
-ghost use Rattle.engine.specs.Answers.{answer, workspace-after, count-answer};
+ghost use Rattle.model.specs.Exact.{exact, exact-ruin, exact-count};
+ghost use Rattle.model.specs.Bounds.{months-to, Encloses};
+ghost use Rattle.engine.specs.Answers.{answer, workspace-after, ruin-answer, ruin-workspace-after, count-answer};
 
 // The answer to a question: the refusal's number, 0 if there is none, and the bounds in parts of 2^30.
 pub struct Answer {
@@ -45,32 +52,34 @@ pub fn ask(ask: Ask, row: &[u32], workspace: &mut [u32]) -> Answer
         Encloses (plan-of (ask .head) (now (row .entry))) (plan-of (ask .head) (now (row .entry)) .chances)
         (exact (plan-of (ask .head) (now (row .entry))) (ask .question)) (r .lower) (r .upper)) ⌝ }
 {
-    let refusal = questions::ask_refusal(ask, row, workspace.len());
+    let refusal = refusals::ask_refusal(ask, row, workspace.len());
     if refusal != 0 {
-        return Answer {
-            refusal,
-            lower: 0,
-            upper: 0,
-        };
+        return refused(refusal);
     }
     let head = ask.head;
     let question = ask.question;
-    let months = head.months;
-    let end = months + head.sizes;
-    let shape = questions::shape_of(question, lengths::row_levels(head));
-    let needed = questions::workspace_needed(ask);
-    let bounds = bounds::question_bounds(
-        &mut workspace[..needed],
-        shape,
-        head.opening,
-        &row[..months],
-        &row[months..end],
-    );
-    Answer {
-        refusal: 0,
-        lower: bounds.lower,
-        upper: bounds.upper,
+    let shape = shape_of(question, row_levels(head));
+    work_out(head, head.months, shape, LastRows::Placed, row, workspace)
+}
+
+// The bounds of the chance that ruin first comes in this month, of 1 to the plan's last. The workspace needs 2 × (opening + months + 1) numbers, as for
+// survive; it is left as by `ask`.
+pub fn ruin_in_month(head: Head, month: usize, row: &[u32], workspace: &mut [u32]) -> Answer
+    ensures answered { λ r. ⌜ r ≡ ruin-answer head month (now (row .entry)) (length (now (workspace .entry))) ⌝ }
+    ensures cleared { λ _. ⌜ now (workspace .exit) ≡ ruin-workspace-after head month (now (row .entry)) (now (workspace .entry)) ⌝ }
+    ensures encloses { λ r.
+        ⌜ (r .refusal ≡ 0 →
+        Encloses (plan-of head (now (row .entry))) (months-to (plan-of head (now (row .entry))) month)
+        (exact-ruin (plan-of head (now (row .entry))) month) (r .lower) (r .upper)) ⌝ }
+{
+    let check = refusals::ruin_refusal(head, month, row, workspace.len());
+    if check != 0 {
+        return refused(check);
     }
+    let shape = shape_of(Question::Survive, row_levels(head));
+    let earlier = month - 1;
+    let last = LastRows::Ruin(row[earlier]);
+    work_out(head, earlier, shape, last, row, workspace)
 }
 
 // The bounds for each number of claims in the plan's months, ruin or not.

@@ -1,15 +1,15 @@
-// What each of the four questions needs, and when it is turned away.
+// What each of the four questions needs, and whether its number is outside the limits.
 use model::Ask;
 use model::Question;
 use model::limits;
 ghost use mathlib.Core.Path.{_≡_};
 ghost use mathlib.Core.Bool.{false};
-ghost use Rattle.model.specs.Refusal.{HeadAccepted, outside, workspace-needed, ask-refusal};
+ghost use Rattle.model.specs.Refusal.{HeadAccepted, outside, workspace-needed};
 ghost use Rattle.engine.specs.Questions.{shape-of};
 use month_rule::rows::Shape;
 use plan::lengths;
 
-fn is_outside(question: Question) -> bool
+pub fn is_outside(question: Question) -> bool
     ensures { λ r. ⌜ r ≡ outside question ⌝ }
 {
     match question {
@@ -68,23 +68,4 @@ pub fn workspace_needed(ask: Ask) -> usize
     let width = lengths::row_levels(head);
     let shape = shape_of(question, width);
     2 * width * shape.rows
-}
-
-// The checks of the plan, then 10 question and 11 workspace.
-pub fn ask_refusal(ask: Ask, row: &[u32], room: usize) -> u32
-    ensures { λ r. ⌜ r ≡ ask-refusal ask (now (row .entry)) room ⌝ }
-{
-    let head = ask.head;
-    let question = ask.question;
-    let refused = plan::plan_refusal(head, row);
-    if refused != 0 {
-        return refused;
-    }
-    if is_outside(question) {
-        return 10;
-    }
-    if room < workspace_needed(ask) {
-        return 11;
-    }
-    0
 }

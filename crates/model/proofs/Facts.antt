@@ -24,7 +24,7 @@ both : (a b : Bool) → a && b ≡ true → (a ≡ true) × (b ≡ true)
 both true b e = (refl, e)
 both false b e = (e, cc)
 
-neither : (a b : Bool) → a || b ≡ false → (a ≡ false) × (b ≡ false)
+pub neither : (a b : Bool) → a || b ≡ false → (a ≡ false) × (b ≡ false)
 neither true b e = (e, cc)
 neither false b e = (refl, e)
 
@@ -72,7 +72,7 @@ pub plan-first :
 unfolding plan-refusal
 plan-first h row rest = first-append (plan-checks h row) rest (plan-numbered h row)
 
-not-zero : {n : ℕ} → (n ≡ 0 → ⊥) → 0 < n
+pub not-zero : {n : ℕ} → (n ≡ 0 → ⊥) → 0 < n
 not-zero h = omega (arith, h)
 
 -- no check fits: not the first, and none of the others

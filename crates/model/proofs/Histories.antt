@@ -1,6 +1,6 @@
 -- The weight of the histories that keep a condition, with the first month split off; all histories together.
 use mathlib.Core.Path.{_≡_, refl, sym, _∙_, ap, fun-ext}
-use mathlib.Core.Bool.{Bool, true, false, cond}
+use mathlib.Core.Bool.{Bool, true, false, cond, not, _&&_}
 use mathlib.Core.List.{List, [], _∷_, map, map-map, map-append, flatMap, zipWith}
 use Prim.Native.Nat.{ℕ, suc, _+_, _*_, _-_, _^_, _≤_}
 use native.Mathlib.Nat.{mul-zero, mul-assoc, mul-add, add-mul, sub-add-cancel, add-zero, zero-add, pow-zero}
@@ -12,7 +12,7 @@ use Rattle.model.specs.Sums.{sum, total, one-to, count}
 use Rattle.model.specs.Plan.{Plan, nth}
 use Rattle.model.specs.History.{Event, no-claim, claim, tail-claim, History, events, histories, event-weight, history-weight, is-claim, claims}
 use Rattle.model.specs.Exact.{weight-of}
-use Rattle.model.proofs.SumLaws.{total-append, total-map-times, total-one-to, sum-times, sum-nth-times, pow-two-more}
+use Rattle.model.proofs.SumLaws.{total-append, total-map-times, total-map-plus, total-one-to, sum-times, sum-nth-times, pow-two-more}
 
 -- the plan that opens at 0 with these severities, tail and chances; the weight of histories does not look at the opening
 abbrev plan-with : List ℕ → ℕ → List ℕ → Plan
@@ -105,6 +105,32 @@ module _ (F : List ℕ) (tail : ℕ) where
   pub weigh-none : (Ps : List ℕ) → weigh F tail Ps (λ h. false) ≡ 0
   unfolding weight-of
   weigh-none Ps = total-zeros (histories (length F) (length Ps))
+
+  -- conditions that agree on every history of so many months
+  pub weigh-same :
+      (Ps : List ℕ) (C D : History → Bool) → ((h : History) → length h ≡ length Ps → C h ≡ D h) → weigh F tail Ps C ≡ weigh F tail Ps D
+  weigh-same [] C D same = weigh-end C ∙ ap (λ (b : Bool). cond b 1 0) (same [] refl) ∙ sym (weigh-end D)
+  weigh-same (P ∷ Ps) C D same =
+      weigh-month P Ps C
+      ∙ ap (λ (f : Event → ℕ). total (map (λ e. event-weight F tail P e * f e) (events (length F))))
+      (fun-ext (λ e. weigh-same Ps (λ h. C (e ∷ h)) (λ h. D (e ∷ h)) (λ h l. same (e ∷ h) (ap suc l))))
+      ∙ sym (weigh-month P Ps D)
+
+  -- the histories that keep a condition, split by another
+  pub weigh-either :
+      (Ps : List ℕ) (C D : History → Bool) → weigh F tail Ps (λ h. C h && not (D h)) + weigh F tail Ps (λ h. C h && D h) ≡ weigh F tail Ps C
+  unfolding weight-of
+  weigh-either Ps C D =
+      total-map-plus (λ h. cond (C h && not (D h)) (w h) 0) (λ h. cond (C h && D h) (w h) 0) (histories (length F) (length Ps))
+      ∙ ap (λ (f : History → ℕ). total (map f (histories (length F) (length Ps)))) (fun-ext (λ h. go (C h) (D h) (w h)))
+    where
+      w : History → ℕ
+      w = history-weight (plan-with F tail Ps)
+
+      go : (c d : Bool) (a : ℕ) → cond (c && not d) a 0 + cond (c && d) a 0 ≡ cond c a 0
+      go true true a = zero-add a
+      go true false a = add-zero a
+      go false d a = refl
 
   -- a claim of any size, over included, weighs its month's chance times S
   pub claims-weigh : total F + tail ≡ S → (P w : ℕ) → P * tail * w + P * (total F * w) ≡ P * (S * w)

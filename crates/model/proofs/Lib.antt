@@ -7,6 +7,7 @@ pub mod Month
 pub mod Values
 pub mod Histories
 pub mod Unrounded
+pub mod FirstRuin
 pub mod Questions
 pub mod Counts
 pub mod FirstClaimLaw

@@ -148,6 +148,10 @@ nth-le-total [] (suc i) = omega arith
 nth-le-total (f ∷ F) (suc zero) = omega arith
 nth-le-total (f ∷ F) (suc (suc i)) = omega (arith, nth-le-total F (suc i))
 
+pub scale-positive : 0 < S
+unfolding S
+scale-positive = omega arith
+
 -- "A chance or weight is a whole number 0 to S": a rounding that keeps within that
 abbrev pub Within : Rounding → Type 0
 Within round = (x : ℕ) → x ≤ S * S → round x ≤ S
@@ -202,6 +206,10 @@ month-fits round within F hF P hP X Y hX hY s =
 pub limit : (x : ℕ) → x ≤ S * S → x + (S - 1) ≤ largest
 unfolding S largest
 limit x h = omega arith
+
+pub scale-limit : S ≤ largest
+unfolding S largest
+scale-limit = omega arith
 
 pub month-limited : {round : Rounding} {F : List ℕ} {P : ℕ} {X Y : Row} {s : ℕ} → MonthFits round F P X Y s → MonthLimits round F P X Y s
 month-limited fits =

@@ -16,11 +16,7 @@ use Rattle.model.specs.History.{claim, History, Surplus, known, at-least
 use Rattle.model.specs.Exact.{path-from, survives, keeps, exact}
 use Rattle.model.specs.MonthRule.{exact-month, value, whole, all-placed, one-fewer, any-level, rule-of, last-of, claims-of}
 use Rattle.model.proofs.Histories.{weight-is, claims-quiet, claims-more}
-use Rattle.model.proofs.Unrounded.{holds, left, Reads, unrounded}
-
-and-true : (a : Bool) → a && true ≡ a
-and-true true = refl
-and-true false = refl
+use Rattle.model.proofs.Unrounded.{and-true, holds, left, Reads, unrounded}
 
 and-swap : (a b c d : Bool) → (a && b) && (c && d) ≡ (a && c) && (b && d)
 and-swap true true c d = refl

@@ -1,10 +1,10 @@
 -- Laws of the sums over 1 to n and over lists.
 use mathlib.Core.Path.{_≡_, refl, sym, _∙_, ap, ap₂}
 use mathlib.Core.List.{List, [], _∷_, _++_, map, map-map}
-use Prim.Native.Nat.{ℕ, zero, suc, _+_, _*_, _^_, _≤_, _<_, min}
-use native.Mathlib.Nat.{mul-add, add-mul, mul-zero, zero-mul, pow-succ', min-zero, zero-min, suc-min-suc}
+use Prim.Native.Nat.{ℕ, zero, suc, _+_, _*_, _^_, _≤_, zero-le, _<_, min}
+use native.Mathlib.Nat.{mul-add, add-mul, mul-zero, zero-mul, suc-mul, pow-succ', zero-add, min-zero, zero-min, suc-min-suc}
 use native.Mathlib.Omega.{arith}
-use lib.ListN.{length}
+use lib.ListN.{length, drop}
 use Rattle.model.specs.Sums.{sum, product, one-to, total}
 use Rattle.model.specs.Plan.{nth}
 
@@ -16,6 +16,18 @@ sum-ext (suc n) f g h =
     let first : f 1 ≡ g 1 = h 0 (omega arith) in
     let rest = sum-ext n (λ x. f (suc x)) (λ x. g (suc x)) (λ i l. h (suc i) (omega arith)) in
     omega arith
+
+-- one term more at the end
+pub sum-last : (n : ℕ) (f : ℕ → ℕ) → sum (suc n) f ≡ sum n f + f (suc n)
+unfolding sum
+sum-last zero f = omega arith
+sum-last (suc n) f = omega (arith, sum-last n (λ x. f (suc x)))
+
+-- terms of at most k
+pub sum-at-most : (n k : ℕ) (f : ℕ → ℕ) → ((i : ℕ) → f (suc i) ≤ k) → sum n f ≤ n * k
+unfolding sum
+sum-at-most zero k f h = omega arith
+sum-at-most (suc n) k f h = omega (arith, h 0, sum-at-most n k (λ x. f (suc x)) (λ i. h (suc i)), suc-mul n k)
 
 pub product-ext : (n : ℕ) (f g : ℕ → ℕ) → ((i : ℕ) → f (suc i) ≡ g (suc i)) → product n f ≡ product n g
 unfolding product
@@ -36,6 +48,18 @@ pub total-map-times : {A : Type 0} (k : ℕ) (f : A → ℕ) (xs : List A) → t
 unfolding total
 total-map-times k f [] = sym (mul-zero k)
 total-map-times k f (x ∷ xs) = ap (λ (y : ℕ). k * f x + y) (total-map-times k f xs) ∙ sym (mul-add k (f x) (total (map f xs)))
+
+pub total-map-plus : {A : Type 0} (f g : A → ℕ) (xs : List A) → total (map f xs) + total (map g xs) ≡ total (map (λ x. f x + g x) xs)
+unfolding total
+total-map-plus f g [] = refl
+total-map-plus f g (x ∷ xs) = omega (arith, total-map-plus f g xs)
+
+-- what is left of a list adds up to no more than all of it
+pub total-drop-le : (j : ℕ) (xs : List ℕ) → total (drop j xs) ≤ total xs
+unfolding total
+total-drop-le zero xs = omega arith
+total-drop-le (suc j) [] = omega arith
+total-drop-le (suc j) (x ∷ xs) = omega (arith, total-drop-le j xs)
 
 -- the sum over 1 to n, as the sum of a list
 pub total-one-to : (n : ℕ) (f : ℕ → ℕ) → total (map f (one-to n)) ≡ sum n f
@@ -60,6 +84,25 @@ sum-nth-times (x ∷ xs) k =
     ap (λ (y : ℕ). x * k + y)
     (sum-ext (length xs) (λ i. nth (x ∷ xs) (suc i) * k) (λ i. nth xs i * k) (λ i l. refl) ∙ sum-nth-times xs k)
     ∙ sym (add-mul x (total xs) k)
+
+-- the same of the weights after the first j, where the terms of those are 0
+pub sum-nth-from :
+    (xs : List ℕ) (j k : ℕ) (f : ℕ → ℕ) →
+    ((i : ℕ) → i < j → f (suc i) ≡ 0) → ((i : ℕ) → j ≤ i → f (suc i) ≡ nth xs (suc i) * k) → sum (length xs) f ≡ total (drop j xs) * k
+unfolding sum total nth
+sum-nth-from xs zero k f first rest = sum-ext (length xs) f (λ x. nth xs x * k) (λ i l. rest i zero-le) ∙ sum-nth-times xs k
+sum-nth-from [] (suc j) k f first rest = sym (zero-mul k)
+sum-nth-from (x ∷ xs) (suc j) k f first rest =
+    let later = sum-nth-from xs j k (λ i. f (suc i)) (λ i l. first (suc i) (omega arith)) (λ i l. rest (suc i) (omega arith)) in
+    omega (arith, first 0 (omega arith))
+
+-- terms that each lead from one number of a row to the one before it lead from the last to the first
+pub sum-telescope : (n : ℕ) (a f : ℕ → ℕ) → ((i : ℕ) → i < n → f (suc i) + a (suc i) ≡ a i) → sum n f + a n ≡ a 0
+unfolding sum
+sum-telescope zero a f h = zero-add (a 0)
+sum-telescope (suc n) a f h =
+    let later = sum-telescope n (λ i. a (suc i)) (λ i. f (suc i)) (λ i l. h (suc i) (omega arith)) in
+    omega (arith, h 0 (omega arith))
 
 pub pow-two-more : (b n : ℕ) → b ^ (2 * suc n) ≡ b * (b * b ^ (2 * n))
 pow-two-more b n =

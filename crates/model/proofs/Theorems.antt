@@ -1,50 +1,45 @@
 -- The laws of demands 2 and 3, of every accepted plan: what the other crates cite, and what docs/CLAIMS.md names.
-use mathlib.Core.Path.{_≡_, refl, sym, _∙_}
+use mathlib.Core.Path.{_≡_, refl, sym, _∙_, ap, ap₂, fun-ext}
 use mathlib.Core.Bool.{true, false}
 use mathlib.Core.List.{List, [], _∷_, _++_}
 use Prim.Native.Nat.{ℕ, zero, suc, _+_, _*_, _-_, _^_, _≤_, _<_}
-use native.Mathlib.Nat.{le-trans, le-of-mul-le-mul-right, le-refl, eq-of-mul-eq-mul-right, one-le-pow, mul-one, zero-add}
+use native.Mathlib.Nat.{le-trans, le-of-mul-le-mul-right, le-refl, eq-of-mul-eq-mul-right, one-le-pow, add-mul, mul-assoc, mul-comm, mul-one, zero-add, zero-mul}
 use native.Mathlib.Omega.{arith}
 use lib.IntN.{pos}
 use lib.ListN.{length, getD, take, drop, length-append}
-use lib.Seq.{getD-drop}
+use lib.Pow.{pow-add}
+use lib.Seq.{getD-drop, getD-take, length-take-le, take-suc, take-take}
 use borrow.Author.Tests.{le-leb}
 use Rattle.model.specs.declared.Head.{Head}
 use Rattle.model.specs.declared.Question.{Question}
 use Rattle.model.specs.declared.Question.the-variants.{Survive}
 use Rattle.model.specs.Scale.{S, Rounding, down, up}
-use Rattle.model.specs.Sums.{product, total}
+use Rattle.model.specs.Sums.{sum, product, total}
 use Rattle.model.specs.Plan.{Plan, plan-of, horizon, sizes, nth}
+use Rattle.model.specs.Levels.{gain}
 use Rattle.model.specs.History.{History, claim, known, at-least, at-most}
-use Rattle.model.specs.Exact.{path-from, survives, weight-of, exact, exact-count}
-use Rattle.model.specs.MonthRule.{Row, month, exact-month, kept, claimed-row, values, value, rule-of, last-of, claims-of}
+use Rattle.model.specs.Exact.{path-from, survives, keeps, first-ruin, weight-of, exact, exact-ruin, exact-count}
+use Rattle.model.specs.MonthRule.{Row, Month, month, exact-month, kept, claimed-row, values, value, rule-of, last-of, claims-of, ruin-weight, ruin-row, carried-back}
 use Rattle.model.specs.CountRow.{count-row, exact-count-month, after-months, no-months}
 use Rattle.model.specs.FirstClaim.{some-claim, first-claim-survival}
-use Rattle.model.specs.Bounds.{bound, lower, upper, count-lower, count-upper, live-months, month-gap, Encloses, MonthLimits, CountLimits}
+use Rattle.model.specs.Bounds.{bound, lower, upper, ruin-bound, ruin-lower, ruin-upper, ruin-lowers, ruin-uppers, count-lower, count-upper}
+use Rattle.model.specs.Bounds.{live-months, months-to, month-gap, Encloses, MonthLimits, RuinLimits, CountLimits}
 use Rattle.model.specs.Refusal.{Accepted}
 use Rattle.model.proofs.Facts.{facts}
+use Rattle.model.proofs.SumLaws.{pow-two-more}
 use Rattle.model.proofs.LevelLaws.{level-later}
-use Rattle.model.proofs.Month.{Direction, downwards, upwards, Within, down-within, up-within, limit, month-limited}
-use Rattle.model.proofs.Values.{values-enclose, values-fit, values-gap, last-fits, months-fit}
+use Rattle.model.proofs.Month.{Direction, downwards, upwards, times-right, scale-positive, Within, down-within, up-within, limit, month-limited}
+use Rattle.model.proofs.Values.{take-fits, values-enclose, values-fit, values-gap, live-months-append, last-fits, months-fit}
 use Rattle.model.proofs.Histories.{weight-is, weigh-all}
 use Rattle.model.proofs.Questions.{unrounded-is-exact}
+use Rattle.model.proofs.FirstRuin.{unrounded-ruin-is-exact, ruins-make-up, ruin-row-encloses, ruin-row-gap, ruin-row-fits, ruin-limited}
 use Rattle.model.proofs.Counts.{unrounded-count-is-exact, count-month-fits, count-row-encloses, count-row-fits, count-row-gap, count-row-above}
 use Rattle.model.proofs.FirstClaimLaw.{some-claim-fits, no-claim-is, survive-is-first-claim}
 use Rattle.model.proofs.Tail.{ruins-then, all-fails}
 
--- the rows that month t reads, by the claims left
-abbrev pub rows-read : Rounding → Plan → Question → ℕ → ℕ → Row
-rows-read round p q t k = kept (rule-of q .allowed) (values (month round (p .severity)) (rule-of q) (last-of q) (drop t (p .chances)) k)
-
-take-fits : (B n : ℕ) (xs : List ℕ) → ((i : ℕ) → getD xs i 0 ≤ B) → (i : ℕ) → getD (take n xs) i 0 ≤ B
-take-fits B zero xs h i = omega arith
-take-fits B (suc n) [] h i = omega arith
-take-fits B (suc n) (x ∷ xs) h zero = h 0
-take-fits B (suc n) (x ∷ xs) h (suc i) = take-fits B n xs (λ j. h (suc j)) i
-
-scale-positive : 0 < S
-unfolding S
-scale-positive = omega arith
+-- the rows that a month of a question's rule reads, by the claims left: those of the months that follow it, from the last rows
+abbrev pub rows-read : Rounding → Plan → Question → (ℕ → Row) → List ℕ → ℕ → Row
+rows-read round p q last later k = kept (rule-of q .allowed) (values (month round (p .severity)) (rule-of q) last later k)
 
 positive : (n : ℕ) → 0 < S ^ n
 positive n = one-le-pow n S scale-positive
@@ -53,9 +48,48 @@ positive n = one-le-pow n S scale-positive
 ordered : {p : Plan} {gap-months : List ℕ} {W low high : ℕ} → Encloses p gap-months W low high → low ≤ high
 ordered {p} {gap-months} {W} {low} {high} e = le-of-mul-le-mul-right (le-trans (e .below) (e .above)) (positive (2 * horizon p))
 
+-- a row before month i + 1 goes back through the first i months
+carried-is :
+    (one-month : Month) (p : Plan) (i : ℕ) (row : Row) →
+    carried-back one-month p (suc i) row ≡ values one-month (rule-of Survive) (λ k. row) (take i (p .chances)) 0 (p .opening)
+unfolding carried-back claims-of
+carried-is one-month p i row =
+    let index : suc i - 1 ≡ i = omega arith in
+    ap (λ (n : ℕ). values one-month (rule-of Survive) (λ k. row) (take n (p .chances)) 0 (p .opening)) index
+
+-- S^(2n) from the months before a month, that month and the months after it
+months-around : (i n : ℕ) → i < n → S ^ (2 * i) * S * (S ^ (2 * (n - suc i)) * S) ≡ S ^ (2 * n)
+months-around i n l =
+    mul-assoc (S ^ (2 * i)) S (S ^ (2 * (n - suc i)) * S)
+    ∙ ap (λ (x : ℕ). S ^ (2 * i) * (S * x)) (mul-comm (S ^ (2 * (n - suc i))) S)
+    ∙ ap (λ (x : ℕ). S ^ (2 * i) * x) (sym (pow-two-more S (n - suc i)))
+    ∙ sym (pow-add S (2 * i) (2 * suc (n - suc i)))
+    ∙ ap (λ (e : ℕ). S ^ e) (omega arith)
+
+-- what is related before a month's rounding, at the scale of all months
+month-scaled :
+    {rel : ℕ → ℕ → Type 0} {round : Rounding} (d : Direction rel round) (i n v e : ℕ) → i < n →
+    rel (v * (S ^ (2 * i) * S)) e → rel (v * S ^ (2 * n)) (e * S ^ (2 * (n - suc i)) * S)
+month-scaled d i n v e l r =
+    rw (← months-around i n l, ← mul-assoc v (S ^ (2 * i) * S) (S ^ (2 * (n - suc i)) * S), mul-assoc e (S ^ (2 * (n - suc i))) S)
+    (times-right d (S ^ (2 * (n - suc i)) * S) r)
+
+-- sums of numbers that are each related at the same two scales
+sum-related :
+    {rel : ℕ → ℕ → Type 0} {round : Rounding} (d : Direction rel round) (n : ℕ) (f g : ℕ → ℕ) (a b : ℕ) →
+    ((i : ℕ) → i < n → rel (f (suc i) * a) (g (suc i) * b)) → rel (sum n f * a) (sum n g * b)
+unfolding sum
+sum-related d zero f g a b h = rw (zero-mul a, zero-mul b) (d .same 0)
+sum-related d (suc n) f g a b h =
+    rw (add-mul (f 1) (sum n (λ i. f (suc i))) a, add-mul (g 1) (sum n (λ i. g (suc i))) b)
+    (d .plus (h 0 (omega arith)) (sum-related d n (λ i. f (suc i)) (λ i. g (suc i)) a b (λ i l. h (suc i) (omega arith))))
+
 module _ (h : Head) (row : List ℕ) (accepted : Accepted h row) where
   abbrev p : Plan
   p = plan-of h row
+
+  weights-add : total (p .severity) + p .tail ≡ S
+  weights-add = facts h row accepted .weights-add
 
   chances-fit : (i : ℕ) → getD (p .chances) i 0 ≤ S
   unfolding plan-of
@@ -67,7 +101,7 @@ module _ (h : Head) (row : List ℕ) (accepted : Accepted h row) where
   chance-fits (suc i) = chances-fit i
 
   severity-fits : total (p .severity) ≤ S
-  severity-fits = omega (arith, facts h row accepted .weights-add)
+  severity-fits = omega (arith, weights-add)
 
   -- Demand 2: unrounded, the month rule is W, the weight of the histories that keep the question's condition …
   pub unrounded : (q : Question) → value (exact-month (p .severity)) p q ≡ exact p q * S
@@ -75,7 +109,7 @@ module _ (h : Head) (row : List ℕ) (accepted : Accepted h row) where
 
   -- … so is each place of the count row …
   pub unrounded-count : (k : ℕ) → after-months exact-count-month (p .chances) no-months k ≡ exact-count p k * S
-  unrounded-count k = unrounded-count-is-exact p (facts h row accepted .weights-add) k
+  unrounded-count k = unrounded-count-is-exact p weights-add k
 
   -- … and survival is the published first-claim recursion: "With rounding left out … survive equals the recursion of source document 000, Theorem 2.1" …
   pub unrounded-is-first-claim : value (exact-month (p .severity)) p Survive ≡ first-claim-survival p * S
@@ -135,7 +169,113 @@ module _ (h : Head) (row : List ℕ) (accepted : Accepted h row) where
   pub all-histories : weight-of p (λ _. true) ≡ S ^ (2 * horizon p)
   all-histories =
       weight-is p (λ _. true)
-      ∙ weigh-all (p .severity) (p .tail) (facts h row accepted .weights-add) (p .chances) chances-fit
+      ∙ weigh-all (p .severity) (p .tail) weights-add (p .chances) chances-fit
+
+  one-month-more : (t : ℕ) → 0 < t → t ≤ horizon p → months-to p t ≡ take (t - 1) (p .chances) ++ nth (p .chances) t ∷ []
+  unfolding nth
+  one-month-more zero some l = absurd (omega arith)
+  one-month-more (suc i) some l = let index : suc i - 1 ≡ i = omega arith in rw index (take-suc (p .chances) i 0 l)
+
+  -- the row before month t, where it ruins: rounded, and exact in parts of S × S
+  abbrev pub before : Rounding → ℕ → Row
+  before round t = ruin-row round (p .severity) (p .tail) (nth (p .chances) t)
+
+  abbrev pub exact-before : ℕ → Row
+  exact-before t s = nth (p .chances) t * ruin-weight (p .severity) (p .tail) (s + gain)
+
+  -- Document 02, ruin in month t. With rounding left out the rule is W, where each month after t multiplies the weight by S × S …
+  pub unrounded-ruin :
+      (t : ℕ) → 0 < t → t ≤ horizon p →
+      carried-back (exact-month (p .severity)) p t (exact-before t) * S ^ (2 * (horizon p - t)) ≡ exact-ruin p t
+  unfolding exact-ruin nth
+  unrounded-ruin zero some l = absurd (omega arith)
+  unrounded-ruin (suc i) some l =
+      ap (λ (v : ℕ). v * S ^ (2 * (horizon p - suc i))) (carried-is (exact-month (p .severity)) p i (exact-before (suc i)))
+      ∙ sym (unrounded-ruin-is-exact (p .severity) (p .tail) weights-add (p .chances) chances-fit i l (p .opening))
+      ∙ sym (weight-is p (first-ruin (suc i) (p .opening)))
+
+  -- … enclosure and gap hold, "the gap rule counting months 1 to t" …
+  pub ruin-enclosure :
+      (t : ℕ) → 0 < t → t ≤ horizon p → Encloses p (months-to p t) (exact-ruin p t) (ruin-lower p t) (ruin-upper p t)
+  unfolding ruin-bound carried-back claims-of
+  ruin-enclosure t some l =
+      record {
+        below = rw (← unrounded-ruin t some l) (one-side downwards);
+        above = rw (← unrounded-ruin t some l) (one-side upwards);
+        gap = gap;
+      }
+    where
+      early : List ℕ
+      early = take (t - 1) (p .chances)
+
+      early-fit : (i : ℕ) → getD early i 0 ≤ S
+      early-fit = take-fits S (t - 1) (p .chances) chances-fit
+
+      count : length early ≡ t - 1
+      count = length-take-le (t - 1) (p .chances) (omega arith)
+
+      after : horizon p - suc (t - 1) ≡ horizon p - t
+      after = omega arith
+
+      one-side :
+          {rel : ℕ → ℕ → Type 0} {round : Rounding} (d : Direction rel round) →
+          rel (ruin-bound round p t * S ^ (2 * horizon p))
+          (carried-back (exact-month (p .severity)) p t (exact-before t) * S ^ (2 * (horizon p - t)) * S)
+      one-side {rel} {round} d =
+          rw after at
+          (month-scaled d (t - 1) (horizon p) _ _ (omega arith)
+          (rw count at
+          (values-enclose d (p .severity) (rule-of Survive) (λ _. before round t) (λ _. exact-before t) S
+          (λ k s. ruin-row-encloses d (p .severity) (p .tail) (nth (p .chances) t) s) early early-fit 0 (p .opening))))
+
+      gap : ruin-upper p t ≤ ruin-lower p t + month-gap * live-months (months-to p t)
+      gap =
+          omega (
+            arith,
+            values-gap (p .severity) severity-fits (rule-of Survive) (λ _. before down t) (λ _. before up t) (month-gap * live-months (nth (p .chances) t ∷ []))
+                (λ k s. ruin-row-gap (p .severity) (p .tail) (nth (p .chances) t) s) early early-fit 0 (p .opening),
+            live-months-append early (nth (p .chances) t ∷ []),
+            ap live-months (one-month-more t some l),
+          )
+
+  -- … and "The exact chances of all months and of survival make up the whole", …
+  pub ruins-and-survival : sum (horizon p) (exact-ruin p) + exact p Survive ≡ S ^ (2 * horizon p)
+  unfolding exact-ruin exact keeps
+  ruins-and-survival =
+      ap₂ (λ (a b : ℕ). a + b)
+      (ap (sum (horizon p)) (fun-ext (λ t. weight-is p (first-ruin t (p .opening)))))
+      (weight-is p (survives (p .opening)))
+      ∙ ruins-make-up (p .severity) (p .tail) (p .chances) (p .opening)
+      ∙ sym (weight-is p (λ _. true))
+      ∙ all-histories
+
+  -- … "so S lies between the two totals once the survival bounds are added".
+  pub whole-between : (ruin-lowers p + lower p Survive ≤ S) × (S ≤ ruin-uppers p + upper p Survive)
+  whole-between = (
+    le-of-mul-le-mul-right (rw (← scaled) (one-side downwards (ruin-lower p) (lower p Survive) (λ t some l. ruin-enclosure t some l .below) (enclosure Survive .below))) (positive (2 * horizon p)),
+    le-of-mul-le-mul-right (rw (← scaled) (one-side upwards (ruin-upper p) (upper p Survive) (λ t some l. ruin-enclosure t some l .above) (enclosure Survive .above))) (positive (2 * horizon p)),
+  )
+    where
+      scaled : (sum (horizon p) (exact-ruin p) + exact p Survive) * S ≡ S * S ^ (2 * horizon p)
+      scaled = ap (λ (x : ℕ). x * S) ruins-and-survival ∙ mul-comm (S ^ (2 * horizon p)) S
+
+      one-side :
+          {rel : ℕ → ℕ → Type 0} {round : Rounding} (d : Direction rel round) (f : ℕ → ℕ) (bound : ℕ) →
+          ((t : ℕ) → 0 < t → t ≤ horizon p → rel (f t * S ^ (2 * horizon p)) (exact-ruin p t * S)) →
+          rel (bound * S ^ (2 * horizon p)) (exact p Survive * S) →
+          rel ((sum (horizon p) f + bound) * S ^ (2 * horizon p)) ((sum (horizon p) (exact-ruin p) + exact p Survive) * S)
+      one-side d f bound each survival =
+          rw (add-mul (sum (horizon p) f) bound (S ^ (2 * horizon p)), add-mul (sum (horizon p) (exact-ruin p)) (exact p Survive) S)
+          (d .plus (sum-related d (horizon p) f (exact-ruin p) (S ^ (2 * horizon p)) S (λ i l. each (suc i) (omega arith) l)) survival)
+
+  -- Months after t have no part in the bounds of ruin in month t.
+  pub ruin-before :
+      (round : Rounding) (t : ℕ) → 0 < t →
+      ruin-bound round p t ≡ ruin-bound round (record { opening = p .opening; chances = take t (p .chances); severity = p .severity; tail = p .tail }) t
+  unfolding ruin-bound carried-back nth
+  ruin-before round zero some = absurd (omega arith)
+  ruin-before round (suc i) some =
+      rw (getD-take (suc i) (p .chances) i 0 (omega arith), take-take (suc i - 1) (suc i) (p .chances) (omega arith))
 
   -- "An over claim must always ruin": so does a claim of any size above m, in any month of any history, where over is above 0. In its own month t
   -- the surplus U_t, at index t − 1, is not 1 or more …
@@ -164,6 +304,9 @@ module _ (h : Head) (row : List ℕ) (accepted : Accepted h row) where
   pub bounds-ordered : (q : Question) → lower p q ≤ upper p q
   bounds-ordered q = ordered (enclosure q)
 
+  pub ruins-ordered : (t : ℕ) → 0 < t → t ≤ horizon p → ruin-lower p t ≤ ruin-upper p t
+  ruins-ordered t some l = ordered (ruin-enclosure t some l)
+
   pub counts-ordered : (k : ℕ) → count-lower p k ≤ count-upper p k
   counts-ordered k = ordered (count-enclosure k)
 
@@ -176,6 +319,18 @@ module _ (h : Head) (row : List ℕ) (accepted : Accepted h row) where
   pub bounds-fit : (q : Question) → (lower p q ≤ S) × (upper p q ≤ S)
   bounds-fit q = (bound-fits down down-within q, bound-fits up up-within q)
 
+  before-fits : (round : Rounding) → Within round → (t s : ℕ) → before round t s ≤ S
+  before-fits round within t s = ruin-row-fits (p .severity) (p .tail) weights-add round within (nth (p .chances) t) (chance-fits t) s
+
+  ruin-fits : (round : Rounding) → Within round → (t : ℕ) → ruin-bound round p t ≤ S
+  unfolding ruin-bound carried-back
+  ruin-fits round within t =
+      values-fit round within (p .severity) severity-fits (rule-of Survive) (λ _. before round t) (λ _ s. before-fits round within t s)
+      (take (t - 1) (p .chances)) (take-fits S (t - 1) (p .chances) chances-fit) (claims-of Survive) (p .opening)
+
+  pub ruins-fit : (t : ℕ) → (ruin-lower p t ≤ S) × (ruin-upper p t ≤ S)
+  ruins-fit t = (ruin-fits down down-within t, ruin-fits up up-within t)
+
   pub counts-fit : (k : ℕ) → (count-lower p k ≤ S) × (count-upper p k ≤ S)
   counts-fit k = (count-row-fits down down-within (p .chances) chances-fit k, count-row-fits up up-within (p .chances) chances-fit k)
 
@@ -184,19 +339,41 @@ module _ (h : Head) (row : List ℕ) (accepted : Accepted h row) where
   unfolding down up S
   counts-above k l = (count-row-above down refl (p .chances) k l, count-row-above up refl (p .chances) k l)
 
-  -- "No product or sum here passes 2^60 + 2^30": what month t works out at level s with k claims left
-  abbrev MonthWithin : Rounding → Question → ℕ → ℕ → ℕ → Type 0
-  MonthWithin round q t k s =
-      MonthLimits round (p .severity) (nth (p .chances) t) (rows-read round p q t k) (claimed-row (rows-read round p q t) (rule-of q .after-claim k)) s
+  -- "No product or sum here passes 2^60 + 2^30": what month t works out at level s with k claims left, over the months that follow it
+  abbrev MonthWithin : Rounding → Question → (ℕ → Row) → ℕ → List ℕ → ℕ → ℕ → Type 0
+  MonthWithin round q last t later k s =
+      MonthLimits round (p .severity) (nth (p .chances) t) (rows-read round p q last later k)
+      (claimed-row (rows-read round p q last later) (rule-of q .after-claim k)) s
 
-  month-within : (round : Rounding) → Within round → (q : Question) (t k s : ℕ) → MonthWithin round q t k s
-  month-within round within q t k s =
+  month-within :
+      (round : Rounding) → Within round → (q : Question) (last : ℕ → Row) → ((k s : ℕ) → last k s ≤ S) →
+      (t : ℕ) (later : List ℕ) → ((i : ℕ) → getD later i 0 ≤ S) → (k s : ℕ) → MonthWithin round q last t later k s
+  month-within round within q last fits t later later-fit k s =
       month-limited
-      (months-fit round within (p .severity) severity-fits (rule-of q) (last-of q) (last-fits q) (nth (p .chances) t) (chance-fits t)
-      (drop t (p .chances)) (λ i. rw getD-drop (chances-fit (t + i))) k s)
+      (months-fit round within (p .severity) severity-fits (rule-of q) last fits (nth (p .chances) t) (chance-fits t) later later-fit k s)
 
-  pub month-limits : (q : Question) (t k s : ℕ) → MonthWithin down q t k s × MonthWithin up q t k s
-  month-limits q t k s = (month-within down down-within q t k s, month-within up up-within q t k s)
+  -- in a question
+  pub month-limits :
+      (q : Question) (t k s : ℕ) →
+      MonthWithin down q (last-of q) t (drop t (p .chances)) k s × MonthWithin up q (last-of q) t (drop t (p .chances)) k s
+  month-limits q t k s = (of down down-within, of up up-within)
+    where
+      of : (round : Rounding) → Within round → MonthWithin round q (last-of q) t (drop t (p .chances)) k s
+      of round within = month-within round within q (last-of q) (last-fits q) t (drop t (p .chances)) (λ i. rw getD-drop (chances-fit (t + i))) k s
+
+  -- in month t of a ruin in month r, and in the row before month r
+  pub ruin-limits :
+      (r t k s : ℕ) →
+      MonthWithin down Survive (λ _. before down r) t (drop t (take (r - 1) (p .chances))) k s
+      × MonthWithin up Survive (λ _. before up r) t (drop t (take (r - 1) (p .chances))) k s
+      × RuinLimits (p .severity) (p .tail) (nth (p .chances) r) s
+  ruin-limits r t k s =
+      (of down down-within, of up up-within, ruin-limited (p .severity) (p .tail) weights-add (nth (p .chances) r) (chance-fits r) s)
+    where
+      of : (round : Rounding) → Within round → MonthWithin round Survive (λ _. before round r) t (drop t (take (r - 1) (p .chances))) k s
+      of round within =
+          month-within round within Survive (λ _. before round r) (λ _ l. before-fits round within r l) t (drop t (take (r - 1) (p .chances)))
+          (λ i. rw getD-drop (take-fits S (r - 1) (p .chances) chances-fit (t + i))) k s
 
   -- the same of month t of the count row, over the row of the months before it
   abbrev CountWithin : Rounding → ℕ → ℕ → Type 0

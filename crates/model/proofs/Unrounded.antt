@@ -1,8 +1,8 @@
--- The unrounded month rule is the weight of the histories that keep the condition: once for all questions, from what a question asks of the
--- surplus in each month and of the number of claims.
+-- The unrounded month rule is the weight of the histories that keep a condition: once for every condition that a month takes apart as its rule
+-- does, and for all questions from what a question asks of the surplus in each month and of the number of claims.
 use mathlib.Core.Path.{_≡_, refl, ap, _∙_, fun-ext}
 use mathlib.Core.Bool.{Bool, true, false, cond, _&&_}
-use mathlib.Core.List.{List, [], _∷_}
+use mathlib.Core.List.{List, [], _∷_, _++_, append-nil}
 use mathlib.Core.Option.{Option, none, some}
 use Prim.Native.Nat.{ℕ, suc, _+_, _*_, _-_, _≤_, _<_, min}
 use native.Mathlib.Nat.{zero-mul, mul-zero, mul-assoc, add-mul, one-mul, zero-add}
@@ -23,7 +23,11 @@ use Rattle.model.proofs.LevelLaws.{gain-some}
 use Rattle.model.proofs.Month.{claim-sum-times}
 use Rattle.model.proofs.Histories.{weigh, weigh-end, weigh-split, weigh-none}
 
-and-assoc : (a b c : Bool) → (a && b) && c ≡ a && (b && c)
+pub and-true : (a : Bool) → a && true ≡ a
+and-true true = refl
+and-true false = refl
+
+pub and-assoc : (a b c : Bool) → (a && b) && c ≡ a && (b && c)
 and-assoc true b c = refl
 and-assoc false b c = refl
 
@@ -52,18 +56,96 @@ pub claim-leaves : (s i : ℕ) → suc i < s + gain → next-surplus (known (pos
 unfolding next-surplus
 claim-leaves s i l = rw (le-ltb (s + gain) (suc i) (omega arith))
 
--- A question as a test T of the surplus in each month, and a condition E on the claims of a history with k of them to place
-unfoldable pub holds : (Surplus → Bool) → (ℕ → History → Bool) → ℕ → ℕ → History → Bool
-holds T E k s h = all T (path-from s h) && E k h
-
--- the same from the month on in which the surplus is s
-now-holds : Rule → (Surplus → Bool) → (ℕ → History → Bool) → ℕ → ℕ → History → Bool
-now-holds q T E k s h = q .allowed s && holds T E k s h
-
--- and after a claim, which there may be none left to place for
+-- what follows a claim, which there may be none left to place for
 abbrev pub left : {A : Type 0} → A → (ℕ → A) → Option ℕ → A
 left none-left some-left none = none-left
 left none-left some-left (some j) = some-left j
+
+-- a condition with k claims to place, from the level s on
+abbrev pub Condition : Type 0
+Condition = ℕ → ℕ → History → Bool
+
+-- When a month of a rule leads from a condition to another: a claim that ruins keeps neither, and what another event leaves is allowed and keeps the
+-- condition after it.
+pub record Leads (q : Rule) (before after : Condition) : Type 0 where
+  pub quiet : (k s : ℕ) (h : History) → before k s (no-claim ∷ h) ≡ q .allowed (s + gain) && after k (s + gain) h
+  pub over : (k s : ℕ) (h : History) → before k s (tail-claim ∷ h) ≡ false
+  pub ruin : (k s i : ℕ) → s + gain ≤ suc i → (h : History) → before k s (claim (suc i) ∷ h) ≡ false
+  pub claimed :
+      (k s i : ℕ) → suc i < s + gain → (h : History) →
+      before k s (claim (suc i) ∷ h)
+      ≡ left false (λ j. q .allowed (s + gain - suc i) && after j (s + gain - suc i) h) (q .after-claim k)
+
+module _ (q : Rule) (F : List ℕ) (tail : ℕ) where
+  -- one month, over the weights of the months after it in parts of S
+  module _ (before after : Condition) (leads : Leads q before after) (P : ℕ) (Ps : List ℕ) (next : ℕ → Row)
+      (later : (k s : ℕ) → weigh F tail Ps (after k s) * S ≡ next k s) where
+    -- the condition after a claim that leaves r
+    after-claimed : Option ℕ → ℕ → History → Bool
+    after-claimed o r h = left false (λ j. q .allowed r && after j r h) o
+
+    kept-weigh : (j r : ℕ) → weigh F tail Ps (λ h. q .allowed r && after j r h) * S ≡ kept (q .allowed) (next j) r
+    unfolding kept
+    kept-weigh j r = go (q .allowed r)
+      where
+        go : (b : Bool) → weigh F tail Ps (λ h. b && after j r h) * S ≡ cond b (next j r) 0
+        go true = later j r
+        go false = rw (weigh-none F tail Ps) (zero-mul S)
+
+    claimed-weigh : (o : Option ℕ) (r : ℕ) → weigh F tail Ps (after-claimed o r) * S ≡ claimed-row (λ j. kept (q .allowed) (next j)) o r
+    unfolding claimed-row after-claimed
+    claimed-weigh none r = rw (weigh-none F tail Ps) (zero-mul S)
+    claimed-weigh (some j) r = kept-weigh j r
+
+    -- the claims of the first month, by their sizes
+    claims-weigh :
+        (k s : ℕ) →
+        sum (length F) (λ x. nth F x * weigh F tail Ps (λ h. before k s (claim x ∷ h)))
+        ≡ claim-sum F (λ r. weigh F tail Ps (after-claimed (q .after-claim k) r)) (s + gain)
+    unfolding claim-sum after-claimed
+    claims-weigh k s =
+        sum-cut (s + gain - 1) (length F) (λ x. nth F x * weigh F tail Ps (λ h. before k s (claim x ∷ h))) large
+        ∙ sum-ext (min (s + gain - 1) (length F)) _ _ small
+      where
+        large : (i : ℕ) → s + gain - 1 ≤ i → nth F (suc i) * weigh F tail Ps (λ h. before k s (claim (suc i) ∷ h)) ≡ 0
+        large i l = rw (fun-ext (leads .ruin k s i (omega (arith, gain-some))), weigh-none F tail Ps) (mul-zero (nth F (suc i)))
+
+        small :
+            (i : ℕ) → i < min (s + gain - 1) (length F) →
+            nth F (suc i) * weigh F tail Ps (λ h. before k s (claim (suc i) ∷ h))
+            ≡ nth F (suc i) * weigh F tail Ps (after-claimed (q .after-claim k) (s + gain - suc i))
+        small i l = rw (fun-ext (leads .claimed k s i (omega arith)))
+
+    month-weigh : (k s : ℕ) → weigh F tail (P ∷ Ps) (before k s) * S ≡ month-back (exact-month F) q P next k s
+    unfolding month-back exact-month
+    month-weigh k s =
+        rw (
+          weigh-split F tail P Ps (before k s),
+          fun-ext (leads .quiet k s),
+          fun-ext (leads .over k s),
+          weigh-none F tail Ps,
+          claims-weigh k s,
+          ← kept-weigh k (s + gain),
+          ← fun-ext (claimed-weigh (q .after-claim k)),
+          ← claim-sum-times F (λ r. weigh F tail Ps (after-claimed (q .after-claim k) r)) S (s + gain),
+        )
+        (scaled ((S - P) * S) (weigh F tail Ps (λ h. q .allowed (s + gain) && after k (s + gain) h)) P
+        (claim-sum F (λ r. weigh F tail Ps (after-claimed (q .after-claim k) r)) (s + gain)) (P * tail))
+
+  -- Months in which each condition leads to the next, from the weights of the months that follow them.
+  pub carried-weigh :
+      (C : ℕ → Condition) → ((n : ℕ) → Leads q (C (suc n)) (C n)) →
+      (rest : List ℕ) (last : ℕ → Row) → ((k s : ℕ) → weigh F tail rest (C 0 k s) * S ≡ last k s) →
+      (Ps : List ℕ) (k s : ℕ) → weigh F tail (Ps ++ rest) (C (length Ps) k s) * S ≡ values (exact-month F) q last Ps k s
+  unfolding values
+  carried-weigh C leads rest last end [] k s = end k s
+  carried-weigh C leads rest last end (P ∷ Ps) k s =
+      month-weigh (C (suc (length Ps))) (C (length Ps)) (leads (length Ps)) P (Ps ++ rest) (values (exact-month F) q last Ps)
+      (carried-weigh C leads rest last end Ps) k s
+
+-- A question as a test T of the surplus in each month, and a condition E on the claims of a history with k of them to place
+unfoldable pub holds : (Surplus → Bool) → (ℕ → History → Bool) → Condition
+holds T E k s h = all T (path-from s h) && E k h
 
 -- when a rule with its last row reads what T and E ask
 pub record Reads (q : Rule) (last : ℕ → Row) (T : Surplus → Bool) (E : ℕ → History → Bool) : Type 0 where
@@ -74,88 +156,31 @@ pub record Reads (q : Rule) (last : ℕ → Row) (T : Surplus → Bool) (E : ℕ
   pub at-claim : (k x : ℕ) (h : History) → E k (claim x ∷ h) ≡ left false (λ j. E j h) (q .after-claim k)
 
 module _ (q : Rule) (last : ℕ → Row) (T : Surplus → Bool) (E : ℕ → History → Bool) (reads : Reads q last T E) where
-  holds-quiet : (k s : ℕ) (h : History) → holds T E k s (no-claim ∷ h) ≡ now-holds q T E k (s + gain) h
-  unfolding holds now-holds all surplus-path next-surplus
-  holds-quiet k s h =
-      rw (reads .above (s + gain) (omega (arith, gain-some)), reads .at-quiet k h) (and-assoc (q .allowed (s + gain)) (all T (path-from (s + gain) h)) (E k h))
-
-  holds-tail : (k s : ℕ) (h : History) → holds T E k s (tail-claim ∷ h) ≡ false
+  -- each month leads from the question to itself
+  same-question : Leads q (holds T E) (holds T E)
   unfolding holds all surplus-path next-surplus at-least
-  holds-tail k s h = ap (λ (b : Bool). (b && all T (surplus-path lost h)) && E k (tail-claim ∷ h)) (reads .ruined lost refl)
-
-  holds-ruin : (k s i : ℕ) → s + gain ≤ suc i → (h : History) → holds T E k s (claim (suc i) ∷ h) ≡ false
-  unfolding holds all surplus-path
-  holds-ruin k s i l h = rw (reads .ruined (next-surplus (known (pos s)) (claim (suc i))) (claim-ruins s i l))
-
-  -- the condition after a claim that leaves r
-  claimed-holds : Option ℕ → ℕ → History → Bool
-  claimed-holds o r h = left false (λ j. now-holds q T E j r h) o
-
-  holds-claim : (k s i : ℕ) → suc i < s + gain → (h : History) → holds T E k s (claim (suc i) ∷ h) ≡ claimed-holds (q .after-claim k) (s + gain - suc i) h
-  unfolding holds now-holds claimed-holds all surplus-path
-  holds-claim k s i l h =
-      rw (claim-leaves s i l, reads .above (s + gain - suc i) (omega arith), reads .at-claim k (suc i) h) (go (q .after-claim k))
+  same-question =
+      record {
+        quiet =
+            λ k s h.
+            rw (reads .above (s + gain) (omega (arith, gain-some)), reads .at-quiet k h) (and-assoc (q .allowed (s + gain)) (all T (path-from (s + gain) h)) (E k h));
+        over = λ k s h. ap (λ (b : Bool). (b && all T (surplus-path lost h)) && E k (tail-claim ∷ h)) (reads .ruined lost refl);
+        ruin = λ k s i l h. rw (reads .ruined (next-surplus (known (pos s)) (claim (suc i))) (claim-ruins s i l));
+        claimed =
+            λ k s i l h.
+            rw (claim-leaves s i l, reads .above (s + gain - suc i) (omega arith), reads .at-claim k (suc i) h) (go (s + gain - suc i) h (q .after-claim k));
+      }
     where
-      r : ℕ
-      r = s + gain - suc i
+      go :
+          (r : ℕ) (h : History) (o : Option ℕ) →
+          (q .allowed r && all T (path-from r h)) && left false (λ j. E j h) o ≡ left false (λ j. q .allowed r && holds T E j r h) o
+      go r h none = and-false (q .allowed r && all T (path-from r h))
+      go r h (some j) = and-assoc (q .allowed r) (all T (path-from r h)) (E j h)
 
-      go : (o : Option ℕ) → (q .allowed r && all T (path-from r h)) && left false (λ j. E j h) o ≡ left false (λ j. now-holds q T E j r h) o
-      go none = and-false (q .allowed r && all T (path-from r h))
-      go (some j) = and-assoc (q .allowed r) (all T (path-from r h)) (E j h)
-
-  module _ (F : List ℕ) (tail : ℕ) where
-    -- what a month reads of the later months, as weights of histories
-    module _ (P : ℕ) (Ps : List ℕ) (later : (k s : ℕ) → weigh F tail Ps (holds T E k s) * S ≡ values (exact-month F) q last Ps k s) where
-      kept-weigh : (j r : ℕ) → weigh F tail Ps (now-holds q T E j r) * S ≡ kept (q .allowed) (values (exact-month F) q last Ps j) r
-      unfolding kept now-holds
-      kept-weigh j r = go (q .allowed r)
-        where
-          go : (b : Bool) → weigh F tail Ps (λ h. b && holds T E j r h) * S ≡ cond b (values (exact-month F) q last Ps j r) 0
-          go true = later j r
-          go false = rw (weigh-none F tail Ps) (zero-mul S)
-
-      claimed-weigh :
-          (o : Option ℕ) (r : ℕ) →
-          weigh F tail Ps (claimed-holds o r) * S ≡ claimed-row (λ j. kept (q .allowed) (values (exact-month F) q last Ps j)) o r
-      unfolding claimed-row claimed-holds
-      claimed-weigh none r = rw (weigh-none F tail Ps) (zero-mul S)
-      claimed-weigh (some j) r = kept-weigh j r
-
-      -- the claims of the first month, by their sizes
-      claims-weigh :
-          (k s : ℕ) →
-          sum (length F) (λ x. nth F x * weigh F tail Ps (λ h. holds T E k s (claim x ∷ h)))
-          ≡ claim-sum F (λ r. weigh F tail Ps (claimed-holds (q .after-claim k) r)) (s + gain)
-      unfolding claim-sum
-      claims-weigh k s =
-          sum-cut (s + gain - 1) (length F) (λ x. nth F x * weigh F tail Ps (λ h. holds T E k s (claim x ∷ h))) large
-          ∙ sum-ext (min (s + gain - 1) (length F)) _ _ small
-        where
-          large : (i : ℕ) → s + gain - 1 ≤ i → nth F (suc i) * weigh F tail Ps (λ h. holds T E k s (claim (suc i) ∷ h)) ≡ 0
-          large i l = rw (fun-ext (holds-ruin k s i (omega (arith, gain-some))), weigh-none F tail Ps) (mul-zero (nth F (suc i)))
-
-          small :
-              (i : ℕ) → i < min (s + gain - 1) (length F) →
-              nth F (suc i) * weigh F tail Ps (λ h. holds T E k s (claim (suc i) ∷ h))
-              ≡ nth F (suc i) * weigh F tail Ps (claimed-holds (q .after-claim k) (s + gain - suc i))
-          small i l = rw (fun-ext (holds-claim k s i (omega arith)))
-
-      month-weigh : (k s : ℕ) → weigh F tail (P ∷ Ps) (holds T E k s) * S ≡ values (exact-month F) q last (P ∷ Ps) k s
-      unfolding values month-back exact-month
-      month-weigh k s =
-          rw (
-            weigh-split F tail P Ps (holds T E k s),
-            fun-ext (holds-quiet k s),
-            fun-ext (holds-tail k s),
-            weigh-none F tail Ps,
-            claims-weigh k s,
-            ← kept-weigh k (s + gain),
-            ← fun-ext (claimed-weigh (q .after-claim k)),
-            ← claim-sum-times F (λ r. weigh F tail Ps (claimed-holds (q .after-claim k) r)) S (s + gain),
-          )
-          (scaled ((S - P) * S) (weigh F tail Ps (now-holds q T E k (s + gain))) P (claim-sum F (λ r. weigh F tail Ps (claimed-holds (q .after-claim k) r)) (s + gain)) (P * tail))
-
-    pub unrounded : (Ps : List ℕ) (k s : ℕ) → weigh F tail Ps (holds T E k s) * S ≡ values (exact-month F) q last Ps k s
-    unfolding values holds all surplus-path
-    unrounded [] k s = rw (weigh-end F tail (holds T E k s)) (cond-scaled (E k []) ∙ reads .at-end k s)
-    unrounded (P ∷ Ps) k s = month-weigh P Ps (unrounded Ps) k s
+  pub unrounded : (F : List ℕ) (tail : ℕ) (Ps : List ℕ) (k s : ℕ) → weigh F tail Ps (holds T E k s) * S ≡ values (exact-month F) q last Ps k s
+  unfolding holds all surplus-path
+  unrounded F tail Ps k s =
+      rw append-nil at (carried-weigh q F tail (λ n. holds T E) (λ n. same-question) [] last end Ps k s)
+    where
+      end : (k s : ℕ) → weigh F tail [] (holds T E k s) * S ≡ last k s
+      end k s = rw (weigh-end F tail (holds T E k s)) (cond-scaled (E k []) ∙ reads .at-end k s)

@@ -1,22 +1,23 @@
 -- Laws of the month rule: what one month keeps of its rows, the rule keeps over all months, for every question.
-use mathlib.Core.Path.{_≡_, sym}
+use mathlib.Core.Path.{_≡_, refl, sym, fun-ext}
 use mathlib.Core.Bool.{Bool, true, false, cond}
-use mathlib.Core.List.{List, [], _∷_}
+use mathlib.Core.List.{List, [], _∷_, _++_}
 use mathlib.Core.Option.{Option, none, some}
-use Prim.Native.Nat.{ℕ, zero, suc, _+_, _*_, _^_, _≤_}
-use native.Mathlib.Nat.{pow-zero, mul-assoc, one-mul, zero-mul, zero-add, le-refl}
+use Prim.Native.Nat.{ℕ, zero, suc, _+_, _*_, _-_, _^_, _≤_}
+use native.Mathlib.Nat.{pow-zero, add-mul, mul-assoc, one-mul, zero-mul, zero-add, le-refl}
 use native.Mathlib.Omega.{arith}
 use lib.Dec.{ltb}
-use lib.ListN.{length, getD}
+use lib.ListN.{length, getD, take}
 use borrow.Author.Tests.{lt-ltb}
 use Rattle.model.specs.declared.Question.{Question}
 use Rattle.model.specs.declared.Question.the-variants.{Survive, Both, High, Low}
 use Rattle.model.specs.Scale.{S, Rounding, down, up}
 use Rattle.model.specs.Sums.{total, count}
+use Rattle.model.specs.Levels.{gain}
 use Rattle.model.specs.MonthRule.{Row, Month, Rule, month, exact-month, kept, claimed-row, month-back, values, all-placed, last-of}
 use Rattle.model.specs.Bounds.{live-months, month-gap}
 use Rattle.model.proofs.SumLaws.{pow-two-more}
-use Rattle.model.proofs.Month.{Direction, Within, MonthFits, month-encloses, month-fits, month-gap-live, month-gap-idle}
+use Rattle.model.proofs.Month.{Direction, Within, MonthFits, claim-sum-times, month-encloses, month-fits, month-gap-live, month-gap-idle}
 
 -- A relation between the values of two month rules, which may speak of the chances still to come: if it holds of 0 and of the last row, and
 -- each month keeps it, then it holds of all values.
@@ -64,6 +65,13 @@ module _
     values-rel (P ∷ Ps) h k s =
         month-back-rel P Ps (h 0) (values m₁ q last₁ Ps) (values m₂ q last₂ Ps) (values-rel Ps (λ i. h (suc i))) k s
 
+-- a limit of a list's numbers is one of its first
+pub take-fits : (B n : ℕ) (xs : List ℕ) → ((i : ℕ) → getD xs i 0 ≤ B) → (i : ℕ) → getD (take n xs) i 0 ≤ B
+take-fits B zero xs h i = omega arith
+take-fits B (suc n) [] h i = omega arith
+take-fits B (suc n) (x ∷ xs) h zero = h 0
+take-fits B (suc n) (x ∷ xs) h (suc i) = take-fits B n xs (λ j. h (suc j)) i
+
 -- S^(2n) × D for the chances of n months, by recursion
 scale : ℕ → List ℕ → ℕ
 scale D [] = D
@@ -89,6 +97,16 @@ values-enclose {rel} {round} d F q last exact-last D h Ps hP k s =
     (λ P Qs hP X Y X′ Y′ hx hy. month-encloses d F P X Y X′ Y′ (scale D Qs) hx hy)
     Ps hP k s)
 
+-- the unrounded rule keeps a factor common to all values of its last rows
+pub values-times :
+    (F : List ℕ) (q : Rule) (last : ℕ → Row) (c : ℕ) (Ps : List ℕ) → ((i : ℕ) → getD Ps i 0 ≤ S) →
+    (k s : ℕ) → values (exact-month F) q last Ps k s * c ≡ values (exact-month F) q (λ k s. last k s * c) Ps k s
+unfolding exact-month
+values-times F q last c =
+    values-rel (λ Qs a b. a * c ≡ b) (exact-month F) (exact-month F) q last (λ k s. last k s * c) (λ Qs. zero-mul c) (λ k s. refl)
+    (λ P Qs hP X Y X′ Y′ hx hy s.
+    rw (← fun-ext hx, ← fun-ext hy, ← claim-sum-times F Y c (s + gain)) (simp (add-mul, mul-assoc)))
+
 -- no value passes S
 pub values-fit :
     (round : Rounding) → Within round → (F : List ℕ) → total F ≤ S → (q : Rule) (last : ℕ → Row) → ((k s : ℕ) → last k s ≤ S) →
@@ -108,6 +126,12 @@ count-more test x xs e = rw e
 pub live-months-live : (P : ℕ) (Ps : List ℕ) → live-months (suc P ∷ Ps) ≡ 1 + live-months Ps
 unfolding live-months
 live-months-live P Ps = count-more (λ chance. ltb 0 chance) (suc P) Ps (lt-ltb 0 (suc P) (omega arith))
+
+pub live-months-append : (Ps Qs : List ℕ) → live-months (Ps ++ Qs) ≡ live-months Ps + live-months Qs
+unfolding live-months count
+live-months-append [] Qs = sym (zero-add (live-months Qs))
+live-months-append (zero ∷ Ps) Qs = rw (live-months-idle (Ps ++ Qs), live-months-idle Ps) (live-months-append Ps Qs)
+live-months-append (suc P ∷ Ps) Qs = rw (live-months-live P (Ps ++ Qs), live-months-live P Ps) (omega (arith, live-months-append Ps Qs))
 
 -- The two bounds are apart by at most the gap of their last rows and the allowance of the months with a chance above 0.
 pub values-gap :

@@ -2,12 +2,13 @@
 use Prim.Native.Nat.{ℕ, _+_, _*_, _-_, _^_, _≤_}
 use mathlib.Core.List.{List}
 use lib.Dec.{ltb}
+use lib.ListN.{take}
 use Rattle.model.specs.declared.Question.{Question}
 use Rattle.model.specs.Scale.{S, Rounding, down, up}
-use Rattle.model.specs.Sums.{count}
+use Rattle.model.specs.Sums.{sum, count}
 use Rattle.model.specs.Plan.{Plan, horizon, nth}
 use Rattle.model.specs.Levels.{gain}
-use Rattle.model.specs.MonthRule.{Row, claim-sum, month, value}
+use Rattle.model.specs.MonthRule.{Row, claim-sum, month, value, ruin-weight, ruin-row, carried-back}
 use Rattle.model.specs.CountRow.{one-before, count-row}
 
 -- the month rule's answer, rounded
@@ -26,16 +27,38 @@ count-lower p k = count-row down (p .chances) k
 abbrev pub count-upper : Plan → ℕ → ℕ
 count-upper p k = count-row up (p .chances) k
 
+-- Document 02, of a month's line `fails t`: the value before month t, carried back to the opening
+unfoldable pub ruin-bound : Rounding → Plan → ℕ → ℕ
+ruin-bound round p t =
+    carried-back (month round (p .severity)) p t (ruin-row round (p .severity) (p .tail) (nth (p .chances) t))
+
+abbrev pub ruin-lower : Plan → ℕ → ℕ
+ruin-lower p t = ruin-bound down p t
+
+abbrev pub ruin-upper : Plan → ℕ → ℕ
+ruin-upper p t = ruin-bound up p t
+
+-- the line `fails all`, "whose two numbers are the sums of the lower and of the upper bounds of the fails lines above it, 0 and 0 with no months"
+abbrev pub ruin-lowers : Plan → ℕ
+ruin-lowers p = sum (horizon p) (ruin-lower p)
+
+abbrev pub ruin-uppers : Plan → ℕ
+ruin-uppers p = sum (horizon p) (ruin-upper p)
+
 -- "Z is the number of months t from 1 to n with P_t above 0."
 unfoldable pub live-months : List ℕ → ℕ
 live-months chances = count (λ P. ltb 0 P) chances
+
+-- "the gap rule counting months 1 to t"
+abbrev pub months-to : Plan → ℕ → List ℕ
+months-to p t = take t (p .chances)
 
 -- the parts of S that a month with a chance above 0 may add to the gap
 abbrev pub month-gap : ℕ
 month-gap = 2
 
 -- Demand 3 of two numbers low and high, and the weight W of the histories that keep a condition; `gap-months` are the chances of the months that the gap
--- rule counts: all of the plan's, for a question and for a place of the count row
+-- rule counts: all of the plan's for a question and for a place of the count row, those of months 1 to t for ruin in month t
 pub record Encloses (p : Plan) (gap-months : List ℕ) (W low high : ℕ) : Type 0 where
   -- "Enclosure: lower × S^(2n) ≤ W × S ≤ upper × S^(2n)"
   pub below : low * S ^ (2 * horizon p) ≤ W * S
@@ -56,3 +79,8 @@ pub record MonthLimits (round : Rounding) (severity : List ℕ) (P : ℕ) (quiet
 -- … and of a month of the count row at a place
 pub record CountLimits (P : ℕ) (row : Row) (k : ℕ) : Type 0 where
   pub month-total : P * one-before row k + (S - P) * row k + (S - 1) ≤ largest
+
+-- … and of the row before the month of a ruin, at a level
+pub record RuinLimits (severity : List ℕ) (tail P s : ℕ) : Type 0 where
+  pub weight : ruin-weight severity tail (s + gain) ≤ largest
+  pub month-total : P * ruin-weight severity tail (s + gain) + (S - 1) ≤ largest

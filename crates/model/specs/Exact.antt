@@ -1,9 +1,10 @@
 -- The exact side: which histories keep a condition, and what they weigh together. Nothing here is rounded or uses the month rule.
-use Prim.Native.Nat.{ℕ}
+use Prim.Native.Nat.{ℕ, _-_}
 use mathlib.Core.Bool.{Bool, _&&_, cond}
 use mathlib.Core.List.{List, map}
 use lib.Dec.{eqb}
 use lib.IntN.{pos}
+use lib.ListN.{getD, take}
 use Rattle.model.specs.declared.Question.{Question}
 use Rattle.model.specs.declared.Question.the-variants.{Survive, Both, High, Low}
 use Rattle.model.specs.Sums.{total, all}
@@ -29,6 +30,11 @@ keeps (Low L) u h = survives u h && all (at-least L) (path-from u h)
 unfoldable pub has-claims : ℕ → History → Bool
 has-claims k h = eqb (claims h) k
 
+-- Document 02: the "first ruin falls" in month t, U_i ≥ 1 for i below t and U_t ≤ 0. An over claim in month t is such a ruin. Months are counted from 1, so
+-- U_t has the index t − 1; a month that the path does not have ruins nothing.
+unfoldable pub first-ruin : ℕ → ℕ → History → Bool
+first-ruin t u h = all (at-least 1) (take (t - 1) (path-from u h)) && at-most 0 (getD (path-from u h) (t - 1) (known (pos 1)))
+
 -- "the weight of the histories that keep the condition"
 unfoldable pub weight-of : Plan → (History → Bool) → ℕ
 weight-of p condition = total (map (λ h. cond (condition h) (history-weight p h) 0) (histories (sizes p) (horizon p)))
@@ -40,3 +46,7 @@ exact p q = weight-of p (keeps q (p .opening))
 -- W at a place k of the count row
 unfoldable pub exact-count : Plan → ℕ → ℕ
 exact-count p k = weight-of p (has-claims k)
+
+-- "The exact chance is the weight of the histories whose first ruin falls there": W of a month's line `fails t`
+unfoldable pub exact-ruin : Plan → ℕ → ℕ
+exact-ruin p t = weight-of p (first-ruin t (p .opening))

@@ -4,11 +4,11 @@ use mathlib.Core.Bool.{Bool, true, cond}
 use mathlib.Core.List.{List, [], _∷_}
 use mathlib.Core.Option.{Option, none, some}
 use lib.Dec.{leb}
-use lib.ListN.{length}
+use lib.ListN.{length, take, drop}
 use Rattle.model.specs.declared.Question.{Question}
 use Rattle.model.specs.declared.Question.the-variants.{Survive, Both, High, Low}
 use Rattle.model.specs.Scale.{S, Rounding}
-use Rattle.model.specs.Sums.{sum}
+use Rattle.model.specs.Sums.{sum, total}
 use Rattle.model.specs.Plan.{Plan, nth}
 use Rattle.model.specs.Levels.{gain}
 
@@ -101,3 +101,16 @@ claims-of (Low L) = 0
 -- "The answer is V_0(u)."
 unfoldable pub value : Month → Plan → Question → ℕ
 value one-month p q = values one-month (rule-of q) (last-of q) (p .chances) (claims-of q) (p .opening)
+
+-- Document 02: "the weight of all sizes above s, over included", which are those that ruin, by the level s + 1 at which the claim comes
+unfoldable pub ruin-weight : List ℕ → ℕ → ℕ → ℕ
+ruin-weight severity tail level = total (drop (level - 1) severity) + tail
+
+-- "For month t the value before it at level s is P_t times the weight …, divided by S and rounded each way"
+unfoldable pub ruin-row : Rounding → List ℕ → ℕ → ℕ → Row
+ruin-row round severity tail P s = round (P * ruin-weight severity tail (s + gain))
+
+-- "the month rule carries it back to the opening": a row before month t through the months t − 1 to 1, which forbid no level
+unfoldable pub carried-back : Month → Plan → ℕ → Row → ℕ
+carried-back one-month p t row =
+    values one-month (rule-of Survive) (λ k. row) (take (t - 1) (p .chances)) (claims-of Survive) (p .opening)

@@ -59,6 +59,10 @@ outside (Both k) = ltb max-claims k
 outside (High L) = ltb max-level L
 outside (Low L) = ltb max-level L
 
+-- 10 question, of the month of a ruin: "It refuses with 10 a month of 0 or above n."
+unfoldable pub month-outside : Head → ℕ → Bool
+month-outside h t = eqb t 0 || ltb (h .months) t
+
 -- "Desk needs: survive, high, low 2 × (u + n + 1) numbers of 32 bits; both k that times k + 1"
 unfoldable pub rows-needed : Question → ℕ
 rows-needed Survive = 1
@@ -84,11 +88,24 @@ plan-refusal h row = first (plan-checks h row)
 abbrev pub Accepted : Head → List ℕ → Type 0
 Accepted h row = plan-refusal h row ≡ 0
 
+-- the checks of a plan, and of whether what is asked of it is outside the limits
+unfoldable pub asked-checks : Head → List ℕ → Bool → List (ℕ × Bool)
+asked-checks h row is-outside = plan-checks h row ++ (10, is-outside) ∷ []
+
+-- A call that answers two bounds: these checks, then that of the workspace's length against what the call needs
+unfoldable pub bounds-refusal : Head → List ℕ → Bool → ℕ → ℕ → ℕ
+bounds-refusal h row is-outside needed room = first (asked-checks h row is-outside ++ room-check needed room ∷ [])
+
 -- Asking: the head, the row, the question, and the workspace's length
-unfoldable pub ask-refusal : Ask → List ℕ → ℕ → ℕ
-ask-refusal a row room =
-    first
-    (plan-checks (a .head) row ++ (10, outside (a .question)) ∷ room-check (workspace-needed a) room ∷ [])
+abbrev pub ask-refusal : Ask → List ℕ → ℕ → ℕ
+ask-refusal a row room = bounds-refusal (a .head) row (outside (a .question)) (workspace-needed a) room
+
+-- Ruin in a month: "Its desk is that of survive"
+abbrev pub ruin-workspace : Head → ℕ
+ruin-workspace h = workspace-needed (record { head = h; question = Survive })
+
+abbrev pub ruin-refusal : Head → ℕ → List ℕ → ℕ → ℕ
+ruin-refusal h t row room = bounds-refusal h row (month-outside h t) (ruin-workspace h) room
 
 -- The count row: the head and the row, and no room
 abbrev pub count-refusal : Head → List ℕ → ℕ

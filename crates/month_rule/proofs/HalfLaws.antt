@@ -57,7 +57,7 @@ module _ (xs front back : List ℕ) (half : ℕ) (whole : length xs ≡ 2 * half
   pub parts-both : Parts front → Parts back → Parts (putMid half (length between-calls - half) between-calls back)
   parts-both hf hb = rw after-both (parts-append front back hf hb)
 
-parts-replicate : (n v : ℕ) → v ≤ S → Parts (replicate n v)
+pub parts-replicate : (n v : ℕ) → v ≤ S → Parts (replicate n v)
 parts-replicate n v l = record { each = go n }
   where
     go : (n k : ℕ) → getD (replicate n v) k 0 ≤ S

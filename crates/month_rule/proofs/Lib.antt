@@ -9,4 +9,4 @@ pub mod ManyRows
 mod OneMonth
 pub mod AllMonths
 -- the two halves of a workspace
-mod HalfLaws
+pub mod HalfLaws

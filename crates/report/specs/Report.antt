@@ -12,7 +12,7 @@ use Rattle.model.specs.Plan.{Plan, plan-of}
 use Rattle.model.specs.Format.{head-of, row-of}
 use Rattle.model.specs.Refusal.{read-refusal}
 use Rattle.text.specs.Text.{ascii, line}
-use Rattle.report_lines.specs.Lines.{head-line, claims-lines, group-lines, head-room, line-room, most-lines}
+use Rattle.report_lines.specs.Lines.{head-line, claims-lines, group-lines, ruin-lines, head-room, line-room, most-lines}
 
 -- the report of an accepted plan
 unfoldable pub plan-report : Head → List ℕ → List ℕ
@@ -23,6 +23,7 @@ plan-report h row =
     ++ group-lines p h (Both 0)
     ++ group-lines p h (High 0)
     ++ group-lines p h (Low 0)
+    ++ ruin-lines p
   where
     p : Plan
     p = plan-of h row
@@ -30,7 +31,9 @@ plan-report h row =
 -- room for the longest report
 abbrev pub text-room : ℕ
 text-room =
-    head-room + (most-lines Survive + (max-months + 1) + most-lines (Both 0) + most-lines (High 0) + most-lines (Low 0)) * line-room
+    head-room
+    + (most-lines Survive + (max-months + 1) + most-lines (Both 0) + most-lines (High 0) + most-lines (Low 0) + (max-months + 1))
+    * line-room
 
 -- What a report needs of lent memory: room for the longest text, for the row of every plan and for every question.
 pub record ReportRoom (text row workspace : List ℕ) : Type 0 where

@@ -1,4 +1,4 @@
-// The reserve report of document 01: from the bytes of a plan to the text of its report.
+// The reserve report of documents 01 and 02: from the bytes of a plan to the text of its report.
 use model::Head;
 use model::Question;
 use model::limits;
@@ -7,6 +7,7 @@ use plan::lengths::row_length;
 use report_lines::groups::put_counts;
 use report_lines::groups::put_group;
 use report_lines::lines::put_head;
+use report_lines::ruins::put_ruins;
 use text::put_line;
 ghost use mathlib.Core.Path.{_≡_};
 ghost use Prim.Native.Nat.{_≤_};
@@ -85,5 +86,6 @@ fn put_plan(text: &mut [u8], head: Head, row: &[u32], workspace: &mut [u32]) -> 
     let end = put_counts(text, end, head, row);
     let end = put_group(text, end, head, Question::Both(0), row, workspace);
     let end = put_group(text, end, head, Question::High(0), row, workspace);
-    put_group(text, end, head, Question::Low(0), row, workspace)
+    let end = put_group(text, end, head, Question::Low(0), row, workspace);
+    put_ruins(text, end, head, row, workspace)
 }

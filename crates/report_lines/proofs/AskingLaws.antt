@@ -1,24 +1,24 @@
 -- Laws of asking on an accepted plan: what the engine answers, and what any number of questions leave of the workspace. Assumes nothing.
 use Prim.Native.Nat.{ℕ, zero, suc, max, _≤_}
 use mathlib.Core.Path.{_≡_, refl, ap, _∙_}
-use mathlib.Core.Bool.{false}
+use mathlib.Core.Bool.{Bool, false}
 use mathlib.Core.List.{List, [], _∷_}
 use native.Mathlib.Omega.{arith}
 use native.Mathlib.Nat.{max-le, max-zero, zero-max, suc-max-suc}
 use lib.ListN.{length, length-append, length-replicate, length-drop}
 use lib.Seq.{drop-nil}
-use borrow.Author.Tests.{le-ltb}
 use Rattle.model.specs.declared.Head.{Head}
 use Rattle.model.specs.declared.Ask.{Ask}
 use Rattle.model.specs.declared.Question.{Question}
+use Rattle.model.specs.declared.Question.the-variants.{Survive}
 use Rattle.model.specs.Limits.{workspace-room}
 use Rattle.model.specs.Plan.{plan-of}
-use Rattle.model.specs.Bounds.{lower, upper}
-use Rattle.model.specs.Refusal.{outside, workspace-needed, ask-refusal}
+use Rattle.model.specs.Bounds.{lower, upper, ruin-lower, ruin-upper}
+use Rattle.model.specs.Refusal.{outside, month-outside, workspace-needed, ruin-workspace, bounds-refusal}
 use Rattle.model.proofs.Facts.{accepted-head}
 use Rattle.model.proofs.Rooms.{workspace-fits}
-use Rattle.engine.specs.Answers.{answer, workspace-after}
-use Rattle.engine.proofs.AskLaws.{ask-refusal-is}
+use Rattle.engine.specs.Answers.{bounds-answer, cleared-after, answer, workspace-after, ruin-answer, ruin-workspace-after}
+use Rattle.engine.proofs.AskLaws.{not-refused}
 use Rattle.report_lines.specs.Asking.{Answerable, zero-first, workspace-left, Cleared}
 
 -- no question asked
@@ -50,7 +50,20 @@ cleared-long {b} room p =
 pub answerable-still : {h : Head} {row b b′ : List ℕ} → Answerable h row b → Cleared b b′ → Answerable h row b′
 answerable-still a p = record { accepted = a .accepted; room = omega (arith, cleared-long (a .room) p, a .room) }
 
--- one question within the limits
+-- a call that answers bounds, within the limits and with a workspace that no question passes
+module _ {h : Head} {row ws : List ℕ} (a : Answerable h row ws) (o : Bool) (within : o ≡ false) (needed : ℕ) (fits : needed ≤ workspace-room) where
+  nothing-refuses : bounds-refusal h row o needed (length ws) ≡ 0
+  nothing-refuses = not-refused (record { accepted = a .accepted; inside = within; enough = omega (arith, fits, a .room) })
+
+  given : (low high : ℕ) → bounds-answer (bounds-refusal h row o needed (length ws)) low high ≡ record { refusal = 0; lower = low; upper = high }
+  unfolding bounds-answer
+  given low high = rw nothing-refuses
+
+  leaves : cleared-after (bounds-refusal h row o needed (length ws)) needed ws ≡ zero-first needed ws
+  unfolding cleared-after
+  leaves = rw nothing-refuses
+
+-- one question
 module _ {h : Head} {row ws : List ℕ} (a : Answerable h row ws) (q : Question) (within : outside q ≡ false) where
   abbrev ask : Ask
   ask = record { head = h; question = q }
@@ -58,18 +71,28 @@ module _ {h : Head} {row ws : List ℕ} (a : Answerable h row ws) (q : Question)
   needed-fits : workspace-needed ask ≤ workspace-room
   needed-fits = workspace-fits ask (accepted-head h row (a .accepted)) within
 
-  not-refused : ask-refusal ask row (length ws) ≡ 0
-  not-refused =
-      let needed : workspace-needed ask ≤ length ws = omega (arith, needed-fits, a .room) in
-      ask-refusal-is ask row (length ws) ∙ (rw (a .accepted, within, le-ltb (length ws) _ needed))
-
   pub asked : answer ask row (length ws) ≡ record { refusal = 0; lower = lower (plan-of h row) q; upper = upper (plan-of h row) q }
   unfolding answer
-  asked = rw not-refused
+  asked = given a (outside q) within (workspace-needed ask) needed-fits _ _
 
   pub asked-leaves : workspace-after ask row ws ≡ workspace-left h q ws
-  unfolding workspace-after
-  asked-leaves = rw not-refused
+  asked-leaves = leaves a (outside q) within (workspace-needed ask) needed-fits
 
   pub asked-clears : {ws′ : List ℕ} → ws′ ≡ workspace-left h q ws → Cleared ws ws′
   asked-clears e = record { upto = workspace-needed ask; inside = needed-fits; is = e }
+
+-- ruin in a month, in the workspace of survive
+survive-inside : outside Survive ≡ false
+unfolding outside
+survive-inside = refl
+
+module _ {h : Head} {row ws : List ℕ} (a : Answerable h row ws) (t : ℕ) (within : month-outside h t ≡ false) where
+  pub ruined : ruin-answer h t row (length ws) ≡ record { refusal = 0; lower = ruin-lower (plan-of h row) t; upper = ruin-upper (plan-of h row) t }
+  unfolding ruin-answer
+  ruined = given a (month-outside h t) within (ruin-workspace h) (needed-fits a Survive survive-inside) _ _
+
+  pub ruined-leaves : ruin-workspace-after h t row ws ≡ workspace-left h Survive ws
+  ruined-leaves = leaves a (month-outside h t) within (ruin-workspace h) (needed-fits a Survive survive-inside)
+
+  pub ruined-clears : {ws′ : List ℕ} → ws′ ≡ workspace-left h Survive ws → Cleared ws ws′
+  ruined-clears e = asked-clears a Survive survive-inside e

@@ -9,8 +9,8 @@ use Rattle.model.specs.declared.Question.{Question}
 use Rattle.model.specs.declared.Question.the-variants.{Survive, Both, High, Low}
 use Rattle.model.specs.Limits.{max-opening, max-claims, max-span, places}
 use Rattle.model.specs.Levels.{gain, largest-level}
-use Rattle.model.specs.Plan.{Plan}
-use Rattle.model.specs.Bounds.{lower, upper, count-lower, count-upper}
+use Rattle.model.specs.Plan.{Plan, horizon}
+use Rattle.model.specs.Bounds.{lower, upper, ruin-lower, ruin-upper, ruin-lowers, ruin-uppers, count-lower, count-upper}
 use Rattle.model.specs.Refusal.{outside}
 use Rattle.text.specs.Text.{ascii, entry, line, joined}
 use Rattle.report_lines.specs.declared.answers.Bounds.{Bounds}
@@ -86,6 +86,24 @@ line-range (Low L) h = record { first = 1; count = h .opening + gain }
 -- all lines of a question
 abbrev pub group-lines : Plan → Head → Question → List ℕ
 group-lines p h q = question-lines p q (line-range q h .first) (line-range q h .count)
+
+-- Document 02: "After its low lines the report gains `fails t lower upper` for t = 1 to n"
+abbrev pub ruin-line : ℕ → ℕ → ℕ → List ℕ
+ruin-line t low high = line (ascii "fails") (t ∷ low ∷ high ∷ [])
+
+abbrev pub ruin-line-of : Plan → ℕ → List ℕ
+ruin-line-of p i = ruin-line (i + 1) (ruin-lower p (i + 1)) (ruin-upper p (i + 1))
+
+-- "and a last line `fails all`"
+abbrev pub ruin-all-line : ℕ → ℕ → List ℕ
+ruin-all-line low high = line (ascii "fails all") (low ∷ high ∷ [])
+
+unfoldable pub ruin-lines : Plan → List ℕ
+ruin-lines p = joined (horizon p) (ruin-line-of p) ++ ruin-all-line (ruin-lowers p) (ruin-uppers p)
+
+-- both bounds of ruin in a month, in one struct
+abbrev pub ruin-bounds-of : Plan → ℕ → Bounds
+ruin-bounds-of p t = record { lower = ruin-lower p t; upper = ruin-upper p t }
 
 -- two rows hold the bounds of each place of a plan's count row
 pub record CountsOf (p : Plan) (lowers uppers : List ℕ) : Type 0 where

@@ -3,3 +3,4 @@
 mod answers;
 pub mod groups;
 pub mod lines;
+pub mod ruins;

@@ -6,32 +6,29 @@ use crate::format;
 use crate::record::Record;
 use crate::rooms;
 use crate::text;
+use engine::Answer;
 use model::Ask;
 use model::Head;
 use model::Question;
 
 pub fn call(record: Record, row: &[u32]) {
     let kind = record.kind;
-    let number = record.number;
     let head = record.head;
     match kind {
-        1 => ask(record, Question::Survive, row),
-        2 => ask(record, Question::Both(number), row),
-        3 => ask(record, Question::High(number), row),
-        4 => ask(record, Question::Low(number), row),
         5 => count(head, row),
         6 => format::write(record, row),
-        _ => format::read(record),
+        7 => format::read(record),
+        _ => lend(record, row),
     }
 }
 
-fn ask(record: Record, question: Question, row: &[u32]) {
-    let head = record.head;
+// The other kinds take a workspace, of which the record's room is lent.
+fn lend(record: Record, row: &[u32]) {
     let room = record.room;
     let fill = record.fill;
     let mut workspace = workspace(fill);
     if room <= rooms::WORKSPACE {
-        ask_in(Ask { head, question }, row, &mut workspace[..room]);
+        call_in(record, row, &mut workspace[..room]);
     }
 }
 
@@ -43,8 +40,31 @@ fn workspace(fill: u32) -> [u32; rooms::WORKSPACE]
     [fill; rooms::WORKSPACE]
 }
 
-fn ask_in(ask: Ask, row: &[u32], workspace: &mut [u32]) {
-    let answer = engine::ask(ask, row, workspace);
+fn call_in(record: Record, row: &[u32], workspace: &mut [u32]) {
+    let kind = record.kind;
+    let number = record.number;
+    let head = record.head;
+    match kind {
+        1 => ask(head, Question::Survive, row, workspace),
+        2 => ask(head, Question::Both(number), row, workspace),
+        3 => ask(head, Question::High(number), row, workspace),
+        4 => ask(head, Question::Low(number), row, workspace),
+        _ => fails(head, number, row, workspace),
+    }
+}
+
+fn ask(head: Head, question: Question, row: &[u32], workspace: &mut [u32]) {
+    let answer = engine::ask(Ask { head, question }, row, workspace);
+    bounds(answer, workspace);
+}
+
+fn fails(head: Head, month: usize, row: &[u32], workspace: &mut [u32]) {
+    let answer = engine::ruin_in_month(head, month, row, workspace);
+    bounds(answer, workspace);
+}
+
+// The line of a call that has two bounds.
+fn bounds(answer: Answer, workspace: &[u32]) {
     text::first(answer.refusal as u64);
     text::next(answer.lower as u64);
     text::next(answer.upper as u64);

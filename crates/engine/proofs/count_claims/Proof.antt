@@ -44,7 +44,7 @@ slice-aggregate-count-rows c = simp length-take (omega (arith, fits (c .before) 
 count-rows-requires : tie.Need-count-rows-requires
 count-rows-requires c κs =
     let a = start (c .before .before) .args in
-    chances-parts (a .head) (a .row .now) (fits (c .before))
+    chances-parts (a .head) (a .row .now) (fits (c .before)) (a .head .months)
 
 returns-2 : tie.Need-returns-2
 returns-2 c =

@@ -1,0 +1,70 @@
+-- Laws of the numbers that several calls answer, of what their contracts say that they answer.
+use mathlib.Core.Path.{_≡_, refl, sym, ap, _∙_}
+use mathlib.Core.List.{List}
+use Prim.Native.Nat.{ℕ, zero, suc, _+_, _≤_, _<_}
+use native.Mathlib.Omega.{arith}
+use borrow.Author.Tests.{ne-eqb}
+use Rattle.model.specs.declared.Head.{Head}
+use Rattle.model.specs.declared.Question.the-variants.{Survive}
+use Rattle.model.specs.Scale.{S}
+use Rattle.model.specs.Sums.{sum}
+use Rattle.model.specs.Plan.{plan-of, horizon}
+use Rattle.model.specs.Bounds.{lower, upper, ruin-lower, ruin-upper}
+use Rattle.model.specs.Refusal.{Accepted}
+use Rattle.model.proofs.SumLaws.{sum-ext}
+use Rattle.model.proofs.Facts.{facts, horizon-is}
+use Rattle.model.proofs.Theorems.{whole-between}
+use Rattle.engine.specs.declared.Answer.{Answer}
+use Rattle.engine.specs.Answers.{refused, bounds-answer, answer, ruin-answer}
+use Rattle.engine.proofs.AskLaws.{asked}
+
+-- an answer gives its refusal's number, and its bounds where that is 0
+number-is : (number low high : ℕ) → bounds-answer number low high .refusal ≡ number
+unfolding bounds-answer refused
+number-is zero low high = refl
+number-is (suc n) low high = rw (ne-eqb (suc n) 0 (λ z. omega (arith, z)))
+
+bounds-are : (number low high : ℕ) → bounds-answer number low high .refusal ≡ 0 → (bounds-answer number low high .lower ≡ low) × (bounds-answer number low high .upper ≡ high)
+unfolding bounds-answer
+bounds-are number low high e = rw (sym (number-is number low high) ∙ e) (refl, refl)
+
+-- "The exact chances of all months and of survival make up the whole, so S lies between the two totals once the survival bounds are added": of one plan
+-- survival is asked, and ruin in each month, each call with a workspace of its own length; where none is refused, the numbers answered keep to it.
+module _
+    (h : Head)
+    (row : List ℕ)
+    (room : ℕ)
+    (month-room : ℕ → ℕ)
+    (survived : answer (record { head = h; question = Survive }) row room .refusal ≡ 0)
+    (ruined : (t : ℕ) → 0 < t → t ≤ h .months → ruin-answer h t row (month-room t) .refusal ≡ 0)
+  where
+    abbrev survival : Answer
+    survival = answer (record { head = h; question = Survive }) row room
+
+    abbrev ruin : ℕ → Answer
+    ruin t = ruin-answer h t row (month-room t)
+
+    accepted : Accepted h row
+    unfolding answer
+    accepted = asked h row _ _ room (sym (number-is _ _ _) ∙ survived) .accepted
+
+    survival-is : (survival .lower ≡ lower (plan-of h row) Survive) × (survival .upper ≡ upper (plan-of h row) Survive)
+    unfolding answer
+    survival-is = bounds-are _ _ _ survived
+
+    ruin-is : (t : ℕ) → 0 < t → t ≤ h .months → (ruin t .lower ≡ ruin-lower (plan-of h row) t) × (ruin t .upper ≡ ruin-upper (plan-of h row) t)
+    unfolding ruin-answer
+    ruin-is t some l = bounds-are _ _ _ (ruined t some l)
+
+    -- a sum over the plan's months
+    all-months : (f g : ℕ → ℕ) → ((t : ℕ) → 0 < t → t ≤ h .months → f t ≡ g t) → sum (h .months) f ≡ sum (horizon (plan-of h row)) g
+    all-months f g same =
+        sum-ext (h .months) f g (λ i l. same (suc i) (omega arith) l)
+        ∙ ap (λ (n : ℕ). sum n g) (sym (horizon-is h row (facts h row accepted .row-is)))
+
+    pub answers-make-up-the-whole :
+        (sum (h .months) (λ t. ruin t .lower) + survival .lower ≤ S) × (S ≤ sum (h .months) (λ t. ruin t .upper) + survival .upper)
+    answers-make-up-the-whole = (
+      rw (all-months (λ t. ruin t .lower) (ruin-lower (plan-of h row)) (λ t some l. ruin-is t some l .0), survival-is .0) (whole-between h row accepted .0),
+      rw (all-months (λ t. ruin t .upper) (ruin-upper (plan-of h row)) (λ t some l. ruin-is t some l .1), survival-is .1) (whole-between h row accepted .1),
+    )

@@ -1,0 +1,149 @@
+-- `ruin_in_month` meets its contract, as `ask` does: the months before are worked from the row before the month.
+use mathlib.Core.Path.{_≡_, refl, sym, ap, _∙_}
+use Prim.Native.Nat.{_*_, _-_, _<_, _≤_}
+use native.Mathlib.Omega.{arith}
+use borrow.Author.Needs.{needs}
+use lib.ListN.{length, getD}
+use Rattle.model.specs.declared.Question.the-variants.{Survive}
+use Rattle.model.specs.Scale.{down, up}
+use Rattle.model.specs.Plan.{plan-of}
+use Rattle.model.specs.Levels.{row-levels}
+use Rattle.model.specs.Refusal.{outside, month-outside, ruin-workspace, ruin-refusal}
+use Rattle.model.proofs.Facts.{Facts, facts, accepted-head, horizon-is}
+use Rattle.model.proofs.Theorems.{ruin-enclosure}
+use Rattle.month_rule.specs.Shapes.{rows-size}
+use Rattle.engine.specs.declared.bounds.LastRows.the-variants.{Ruin}
+use Rattle.engine.specs.Questions.{shape-of}
+use Rattle.engine.specs.Answers.{ruin-answer}
+use Rattle.engine.specs.LastRows.{opening-value}
+use Rattle.engine.proofs.AskLaws.{Asked, asked, month-inside, shape-width}
+use Rattle.engine.proofs.AnswerLaws.{refused-out, workspace-cleared, worked-out, needed-halves, ruin-bound-is, ruin-fits}
+use Rattle.engine.proofs.ruin_in_month.Statement.{statement}
+use Rattle.engine.proofs.ruin_in_month.Tie as tie
+
+ruin-refusal-requires : tie.Need-ruin-refusal-requires
+ruin-refusal-requires c κs = search needs
+
+refused-requires : tie.Need-refused-requires
+refused-requires c κs = search needs
+
+-- the start of the function, from after the checks
+abbrev start : tie.After-ruin-refusal → tie.Start
+start c = c .before .before .before
+
+returns : tie.Need-returns
+unfolding ruin-answer
+returns c =
+    let checked = c .before .before in
+    let a = start checked .args in
+    let n = checked .ruin-refusal in
+    let out = refused-out (c .refused .result) (n .result) _ (ruin-workspace (a .head)) _ _ (a .workspace .now) (c .refused .ensures) (n .ensures) (c .before .if1 .taken) in
+    (out .0, (out .1, λ z. absurd (out .2 z)))
+
+known :
+    (c : tie.Else1) →
+    let a = start (c .before) .args in
+    Asked (a .head) (a .row .now) (month-outside (a .head) (a .month)) (ruin-workspace (a .head)) (length (a .workspace .now))
+known c =
+    let a = start (c .before) .args in
+    asked (a .head) (a .row .now) (month-outside (a .head) (a .month)) (ruin-workspace (a .head)) (length (a .workspace .now))
+    (sym (c .before .ruin-refusal .ensures) ∙ c .if1 .left)
+
+-- the month is one of the plan's, which the row has
+inside : (c : tie.Else1) → let a = start (c .before) .args in (0 < a .month) × (a .month ≤ a .head .months)
+inside c = let a = start (c .before) .args in month-inside (a .head) (a .month) (known c .inside)
+
+fits : (c : tie.Else1) → let a = start (c .before) .args in Facts (a .head) (a .row .now)
+fits c = let a = start (c .before) .args in facts (a .head) (a .row .now) (known c .accepted)
+
+row-levels-requires : tie.Need-row-levels-requires
+row-levels-requires c κs = accepted-head _ _ (known c .accepted)
+
+shape-of-requires : tie.Need-shape-of-requires
+unfolding outside
+shape-of-requires c κs = refl
+
+sub-earlier : tie.Need-sub-earlier
+sub-earlier c = omega (arith, inside (c .before .before))
+
+-- where nothing was refused, and the rows' shape
+abbrev answered : tie.After-shape-of → tie.Else1
+answered c = c .before .before
+
+abbrev of-shape : tie.After-shape-of → tie.Start
+of-shape c = start (answered c .before)
+
+mul-t9 : tie.Need-mul-t9
+mul-t9 c = omega (arith, inside (answered c), fits (answered c) .head .months-fit)
+
+shared-slice-read-t13 : tie.Need-shared-slice-read-t13
+shared-slice-read-t13 c = omega (arith, inside (answered (c .before)), fits (answered (c .before)) .row-is)
+
+width-is : (c : tie.After-shape-of) → let a = of-shape c .args in c .shape-of .result .width ≡ row-levels (a .head .opening) (a .head .months)
+width-is c = ap (λ s. s .width) (c .shape-of .ensures) ∙ shape-width Survive (c .before .row-levels .result) ∙ c .before .row-levels .ensures
+
+needed-is : (c : tie.After-shape-of) → 2 * rows-size (c .shape-of .result) ≡ ruin-workspace (of-shape c .args .head)
+needed-is c =
+    let width = c .before .row-levels in
+    ap (λ s. 2 * rows-size s) (c .shape-of .ensures)
+    ∙ needed-halves (record { head = of-shape c .args .head; question = Survive }) (width .result) (width .ensures)
+
+work-out-requires : tie.Need-work-out-requires
+work-out-requires c κs =
+    let shaped = c .before .before in
+    let a = of-shape shaped .args in
+    let else1 = answered shaped in (
+      known else1 .accepted,
+      (
+        record { wide = width-is shaped; within = omega (arith, inside else1); enough = omega (arith, needed-is shaped, known else1 .enough) },
+        ruin-fits (a .head) (a .row .now) (fits else1) (a .month - 1) (shaped .shape-of .result) (shaped .before .row-levels .result) (shaped .shape-of .ensures),
+      ),
+    )
+
+same-length : tie.Need-same-length
+same-length c = search needs
+
+returns-2 : tie.Need-returns-2
+unfolding ruin-answer
+returns-2 c =
+    let call = c .before .before .work-out in
+    let shaped = c .before .before .before .before .before in
+    let else1 = answered shaped in
+    let a = of-shape shaped .args in
+    let h = a .head in
+    let row = a .row .now in
+    let t = a .month in
+    let width = shaped .before .row-levels in
+    let none = sym (else1 .before .ruin-refusal .ensures) ∙ else1 .if1 .left in
+    let row-is = fits else1 .row-is in
+    let P = getD row (t - 1) 0 in
+    let low =
+    ap (λ s. opening-value down (plan-of h row) (t - 1) s (Ruin P)) (shaped .shape-of .ensures)
+    ∙ ruin-bound-is down h row row-is t (inside else1 .0) (inside else1 .1) (width .result) (width .ensures) P refl in
+    let high =
+    ap (λ s. opening-value up (plan-of h row) (t - 1) s (Ruin P)) (shaped .shape-of .ensures)
+    ∙ ruin-bound-is up h row row-is t (inside else1 .0) (inside else1 .1) (width .result) (width .ensures) P refl in
+    let encloses = ruin-enclosure h row (known else1 .accepted) t (inside else1 .0) (rw (horizon-is h row row-is) (inside else1 .1)) in
+    let done = worked-out (call .result) (ruin-refusal h t row (length (a .workspace .now))) (call .ensures .0) low high none encloses in (
+      done .0,
+      (
+        call .ensures .1 ∙ workspace-cleared _ (ruin-workspace h) (2 * rows-size (shaped .shape-of .result)) (a .workspace .now) none (needed-is shaped),
+        λ _. done .1,
+      ),
+    )
+
+pub ruin-in-month-spec : {M : Type 1} → statement M
+ruin-in-month-spec =
+    tie.close
+    (tie.spec
+    ruin-refusal-requires
+    refused-requires
+    returns
+    row-levels-requires
+    shape-of-requires
+    sub-earlier
+    mul-t9
+    shared-slice-read-t13
+    work-out-requires
+    same-length
+    returns-2)

@@ -1,0 +1,36 @@
+-- The rows from which a call's months go back.
+use Prim.Native.Nat.{ℕ, _*_, _-_, _<_, _≤_}
+use mathlib.Core.Path.{_≡_}
+use mathlib.Core.List.{List}
+use lib.ListN.{take}
+use Rattle.model.specs.declared.Head.{Head}
+use Rattle.engine.specs.declared.bounds.LastRows.{LastRows}
+use Rattle.engine.specs.declared.bounds.LastRows.the-variants.{Placed, Ruin}
+use Rattle.month_rule.specs.declared.rows.Shape.{Shape}
+use Rattle.model.specs.Scale.{Rounding}
+use Rattle.model.specs.Plan.{Plan}
+use Rattle.model.specs.Levels.{row-levels}
+use Rattle.model.specs.MonthRule.{Row, month, values, all-placed, ruin-row}
+use Rattle.month_rule.specs.Shapes.{rows-size, rule-by}
+use Rattle.ruin_rows.specs.Terms.{RuinTerms}
+
+-- their values, by the claims left and the level
+unfoldable pub last-rows : LastRows → Rounding → List ℕ → ℕ → ℕ → Row
+last-rows Placed round severity tail k = all-placed k
+last-rows (Ruin P) round severity tail k = ruin-row round severity tail P
+
+-- what they ask of a shape and of the plan's numbers: ruin is not told apart by claims, so that there is one row
+unfoldable pub LastFits : LastRows → Shape → List ℕ → ℕ → Type 0
+LastFits Placed shape severity tail = 0 < shape .rows
+LastFits (Ruin P) shape severity tail = (shape .rows ≡ 1) × RuinTerms severity tail P
+
+-- What working out an answer needs: rows as wide as the plan's levels, lent twice, and months of the plan.
+pub record Workable (h : Head) (months : ℕ) (shape : Shape) (room : ℕ) : Type 0 where
+  pub wide : shape .width ≡ row-levels (h .opening) (h .months)
+  pub within : months ≤ h .months
+  pub enough : 2 * rows-size shape ≤ room
+
+-- the value at the opening with all claims to place, from the last rows through the plan's first months
+abbrev pub opening-value : Rounding → Plan → ℕ → Shape → LastRows → ℕ
+opening-value round p months shape last =
+    values (month round (p .severity)) (rule-by shape) (last-rows last round (p .severity) (p .tail)) (take months (p .chances)) (shape .rows - 1) (p .opening)

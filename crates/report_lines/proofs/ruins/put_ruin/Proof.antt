@@ -1,0 +1,62 @@
+-- `ruins::put_ruin` meets its contract: the bounds of the line and of the sums are those that the engine answers. Assumes nothing.
+use mathlib.Core.Path.{ap}
+use Prim.Native.Nat.{_+_}
+use borrow.Author.Needs.{needs}
+use Rattle.report_lines.proofs.ruins.put_ruin.Statement.{statement}
+use Rattle.report_lines.proofs.ruins.put_ruin.Tie as tie
+
+ruin-of-requires : tie.Need-ruin-of-requires
+ruin-of-requires c κs = search needs
+
+cast-lower : tie.Need-cast-lower
+cast-lower c = search needs
+
+cast-upper : tie.Need-cast-upper
+cast-upper c = search needs
+
+put-ruin-line-requires : tie.Need-put-ruin-line-requires
+put-ruin-line-requires c κs = search needs
+
+add-t15 : tie.Need-add-t15
+add-t15 c = search needs
+
+add-t16 : tie.Need-add-t16
+add-t16 c = search needs
+
+same-length : tie.Need-same-length
+same-length c = search needs
+
+same-length-2 : tie.Need-same-length-2
+same-length-2 c = search needs
+
+-- the places of the calls, each from the next
+abbrev asked : tie.After-put-ruin-line → tie.After-ruin-of
+asked c = c .before .before .before .before .before .before
+
+abbrev start : tie.After-ruin-of → tie.Start
+start c = c .before .before .before .before .before
+
+returns : tie.Need-returns
+returns c =
+    let put = c .before .before .before .before in
+    let call = asked put .ruin-of .ensures in
+    let lines = start (asked put) .args .lines in
+    let low = ap (λ b. b .lower) (call .0) in
+    let high = ap (λ b. b .upper) (call .0) in (
+      rw (← low, ← high) (put .put-ruin-line .ensures),
+      ((ap (λ x. lines .lower + x) low, ap (λ x. lines .upper + x) high), call .1),
+    )
+
+pub put-ruin-spec : {M : Type 1} → statement M
+put-ruin-spec =
+    tie.close
+    (tie.spec
+    ruin-of-requires
+    cast-lower
+    cast-upper
+    put-ruin-line-requires
+    add-t15
+    add-t16
+    same-length
+    same-length-2
+    returns)
