@@ -62,8 +62,12 @@ question-at p q first i = question-line p (numbered q (first + i))
 unfoldable pub question-lines : Plan → Question → ℕ → ℕ → List ℕ
 question-lines p q first count = joined count (question-at p q first)
 
+-- a line with a number of its own
+abbrev pub numbered-line : List ℕ → ℕ → ℕ → ℕ → List ℕ
+numbered-line word x low high = line word (x ∷ low ∷ high ∷ [])
+
 abbrev pub claims-line : ℕ → ℕ → ℕ → List ℕ
-claims-line k low high = line (ascii "claims") (k ∷ low ∷ high ∷ [])
+claims-line k low high = numbered-line (ascii "claims") k low high
 
 -- the line of a place of a count row, and of a plan's
 abbrev pub claims-at : List ℕ → List ℕ → ℕ → List ℕ
@@ -89,7 +93,7 @@ group-lines p h q = question-lines p q (line-range q h .first) (line-range q h .
 
 -- Document 02: "After its low lines the report gains `fails t lower upper` for t = 1 to n"
 abbrev pub ruin-line : ℕ → ℕ → ℕ → List ℕ
-ruin-line t low high = line (ascii "fails") (t ∷ low ∷ high ∷ [])
+ruin-line t low high = numbered-line (ascii "fails") t low high
 
 abbrev pub ruin-line-of : Plan → ℕ → List ℕ
 ruin-line-of p i = ruin-line (i + 1) (ruin-lower p (i + 1)) (ruin-upper p (i + 1))
@@ -112,9 +116,12 @@ pub record CountsOf (p : Plan) (lowers uppers : List ℕ) : Type 0 where
   pub lowers-are : (k : ℕ) → k < places → getD lowers k 0 ≡ count-lower p k
   pub uppers-are : (k : ℕ) → k < places → getD uppers k 0 ≡ count-upper p k
 
--- room for a head line, and for any other line: its word, three numbers of at most 20 digits, spaces and the newline
+-- room for a head line, for what a line has after its word, which is three numbers of at most 20 digits, spaces and the newline, and for any line
 abbrev pub head-room : ℕ
 head-room = 84
+
+abbrev pub number-room : ℕ
+number-room = 64
 
 abbrev pub line-room : ℕ
 line-room = 71

@@ -9,7 +9,7 @@ ghost use Rattle.report_lines.specs.Asking.{Answerable, Cleared};
 ghost use Rattle.report_lines.specs.Lines.{question-lines, line-range, group-lines, claims-at, claims-lines, line-room, LinesFit, most-lines};
 ghost use Rattle.report_lines.specs.Lines.{numbered as Lines·numbered};
 use crate::answers;
-use crate::lines::put_claims_line;
+use crate::lines::put_numbered;
 use crate::lines::put_question;
 use model::Head;
 use model::Question;
@@ -137,7 +137,7 @@ fn put_claims(text: &mut [u8], at: usize, months: usize, lower: &[u32], upper: &
     let mut end = at;
     let mut k = 0;
     while k <= months {
-        end = put_claims_line(text, end, k, wide(lower[k]), wide(upper[k]));
+        end = put_numbered(text, end, b"claims", k, wide(lower[k]), wide(upper[k]));
         k += 1;
     }
     end

@@ -7,7 +7,7 @@ ghost use Rattle.model.specs.Plan.{plan-of};
 ghost use Rattle.model.specs.Refusal.{outside};
 ghost use Rattle.text.specs.Text.{Appended};
 ghost use Rattle.report_lines.specs.Asking.{Answerable, workspace-left};
-ghost use Rattle.report_lines.specs.Lines.{head-line, head-room, bounds-line, question-line, claims-line, ruin-line, line-room};
+ghost use Rattle.report_lines.specs.Lines.{head-line, head-room, bounds-line, question-line, numbered-line, line-room, number-room};
 use crate::answers;
 use model::Head;
 use model::Question;
@@ -58,16 +58,17 @@ pub fn put_question(
     put_bounds(text, at, question, bounds.lower as u64, bounds.upper as u64)
 }
 
-pub fn put_claims_line(text: &mut [u8], at: usize, k: usize, lower: u64, upper: u64) -> usize
-    requires { ⌜ at + line-room ≤ length (now text) ⌝ }
-    ensures { λ r. ⌜ Appended (now (text .entry)) at (claims-line k lower upper) (now (text .exit)) r ⌝ }
+// A line with a number of its own, of a place of the count row or of a month.
+pub fn put_numbered(
+    text: &mut [u8],
+    at: usize,
+    word: &[u8],
+    number: usize,
+    lower: u64,
+    upper: u64,
+) -> usize
+    requires { ⌜ at + length (now word) + number-room ≤ length (now text) ⌝ }
+    ensures { λ r. ⌜ Appended (now (text .entry)) at (numbered-line (now (word .entry)) number lower upper) (now (text .exit)) r ⌝ }
 {
-    put_line(text, at, b"claims", &[k as u64, lower, upper])
-}
-
-pub fn put_ruin_line(text: &mut [u8], at: usize, month: usize, lower: u64, upper: u64) -> usize
-    requires { ⌜ at + line-room ≤ length (now text) ⌝ }
-    ensures { λ r. ⌜ Appended (now (text .entry)) at (ruin-line month lower upper) (now (text .exit)) r ⌝ }
-{
-    put_line(text, at, b"fails", &[month as u64, lower, upper])
+    put_line(text, at, word, &[number as u64, lower, upper])
 }

@@ -11,7 +11,7 @@ ghost use Rattle.text.specs.Text.{Appended};
 ghost use Rattle.report_lines.specs.Asking.{Answerable, workspace-left, Cleared};
 ghost use Rattle.report_lines.specs.Lines.{ruin-line, ruin-lines, line-room};
 use crate::answers::ruin_of;
-use crate::lines::put_ruin_line;
+use crate::lines::put_numbered;
 use model::Head;
 use text::put_line;
 
@@ -43,7 +43,7 @@ fn put_ruin(
     let bounds = ruin_of(head, month, row, workspace);
     let lower = bounds.lower as u64;
     let upper = bounds.upper as u64;
-    let end = put_ruin_line(text, lines.end, month, lower, upper);
+    let end = put_numbered(text, lines.end, b"fails", month, lower, upper);
     RuinLines {
         end,
         lower: lines.lower + lower,

@@ -14,14 +14,17 @@ cast-lower c = search needs
 cast-upper : tie.Need-cast-upper
 cast-upper c = search needs
 
-put-ruin-line-requires : tie.Need-put-ruin-line-requires
-put-ruin-line-requires c κs = search needs
+slice-aggregate-put-numbered : tie.Need-slice-aggregate-put-numbered
+slice-aggregate-put-numbered c = search needs
 
-add-t15 : tie.Need-add-t15
-add-t15 c = search needs
+put-numbered-requires : tie.Need-put-numbered-requires
+put-numbered-requires c κs = search needs
 
-add-t16 : tie.Need-add-t16
-add-t16 c = search needs
+add-t18 : tie.Need-add-t18
+add-t18 c = search needs
+
+add-t19 : tie.Need-add-t19
+add-t19 c = search needs
 
 same-length : tie.Need-same-length
 same-length c = search needs
@@ -30,8 +33,8 @@ same-length-2 : tie.Need-same-length-2
 same-length-2 c = search needs
 
 -- the places of the calls, each from the next
-abbrev asked : tie.After-put-ruin-line → tie.After-ruin-of
-asked c = c .before .before .before .before .before .before
+abbrev asked : tie.After-put-numbered → tie.After-ruin-of
+asked c = c .before .before .before .before .before .before .before
 
 abbrev start : tie.After-ruin-of → tie.Start
 start c = c .before .before .before .before .before
@@ -43,7 +46,7 @@ returns c =
     let lines = start (asked put) .args .lines in
     let low = ap (λ b. b .lower) (call .0) in
     let high = ap (λ b. b .upper) (call .0) in (
-      rw (← low, ← high) (put .put-ruin-line .ensures),
+      rw (← low, ← high) (put .put-numbered .ensures),
       ((ap (λ x. lines .lower + x) low, ap (λ x. lines .upper + x) high), call .1),
     )
 
@@ -54,9 +57,10 @@ put-ruin-spec =
     ruin-of-requires
     cast-lower
     cast-upper
-    put-ruin-line-requires
-    add-t15
-    add-t16
+    slice-aggregate-put-numbered
+    put-numbered-requires
+    add-t18
+    add-t19
     same-length
     same-length-2
     returns)

@@ -15,11 +15,11 @@ use Rattle.report_lines.proofs.ruins.put_ruins.Statement.{statement}
 use Rattle.report_lines.proofs.ruins.put_ruins.Tie as tie
 
 abbrev Inv-loop : tie.InvT-loop
-Inv-loop text₀ at head row workspace₀ months lines₀ i₀ t9 text workspace lines i =
+Inv-loop text₀ at head row workspace₀ months lines₀ i₀ word text workspace lines i =
     Ruining (plan-of head row) (head .months) text₀ at workspace₀ text workspace lines i × (months ≡ head .months)
 
 abbrev μ-loop : tie.MeasureT-loop
-μ-loop text₀ at head row workspace₀ months lines₀ i₀ t9 text workspace lines i = months - i
+μ-loop text₀ at head row workspace₀ months lines₀ i₀ word text workspace lines i = months - i
 
 loop-holds : tie.Need-loop-holds Inv-loop μ-loop
 loop-holds c = (ruining-start _ _ _ _ _ (search needs), refl)
