@@ -1,11 +1,11 @@
--- Laws of an answer: what is known where nothing is refused, and the answer and the workspace from what the two halves give.
+-- Laws of an answer that has two bounds: refused or worked out, the parts as they are lent, the last rows, and the value that they give.
 use mathlib.Core.Path.{_≡_, refl, sym, _∙_, ap}
 use mathlib.Core.Bool.{false}
 use mathlib.Core.List.{List, _++_}
 use Prim.Native.Nat.{ℕ, zero, suc, _+_, _*_, _-_, _≤_, _<_}
-use native.Mathlib.Nat.{le-refl, mul-assoc, mul-comm, one-mul, zero-add, zero-mul}
+use native.Mathlib.Nat.{le-refl, mul-assoc, mul-comm, one-mul, sub-zero, zero-add, zero-mul}
 use native.Mathlib.Omega.{arith}
-use lib.ListN.{length, getD, take, drop, replicate}
+use lib.ListN.{length, getD, take, drop, replicate, getD-replicate}
 use lib.Seq.{length-take-le, take-all, take-take, getD-take}
 use borrow.Author.Tests.{ne-eqb}
 use Rattle.model.specs.declared.Head.{Head}
@@ -30,7 +30,7 @@ use Rattle.month_rule.specs.Shapes.{rows-size, values-in, rule-by}
 use Rattle.month_rule.proofs.RowLaws.{parts-part}
 use Rattle.ruin_rows.specs.Terms.{RuinTerms}
 use Rattle.engine.specs.Questions.{shape-of}
-use Rattle.engine.specs.LastRows.{last-rows, LastFits, opening-value}
+use Rattle.engine.specs.LastRows.{last-rows, past-last, LastIn, LastFits, opening-value}
 use Rattle.engine.specs.Answers.{refused, bounds-answer, cleared-after}
 use Rattle.engine.proofs.AskLaws.{shape-rows, shape-width, last-agree, shape-value}
 
@@ -132,13 +132,14 @@ unfolding LastFits shape-of
 ruin-fits h row f i shape width e =
     (ap (λ (s : Shape). s .rows) e, record { weights-fit = omega (arith, f .weights-add); chance-fits = f .numbers-fit i })
 
--- the last rows, by the claims left and the level: where all claims are placed …
-pub placed-values :
-    (last : LastRows) → last ≡ Placed → (round : Rounding) (shape : Shape) (F : List ℕ) (tail : ℕ) (xs : List ℕ) →
-    ((top : ℕ) → top < shape .width → (k : ℕ) → k < shape .rows → (s : ℕ) → values-in shape top xs k s ≡ all-placed k s) →
-    (top : ℕ) → top < shape .width → (k : ℕ) → k < shape .rows → (s : ℕ) → s ≤ top → values-in shape top xs k s ≡ last-rows last round F tail k s
-unfolding last-rows
-placed-values last e round shape F tail xs h top l k m s n = rw e (h top l k m s)
+-- the last rows in memory: where all claims are placed …
+pub placed-in :
+    (last : LastRows) → last ≡ Placed → (round : Rounding) (F : List ℕ) (tail : ℕ) (shape : Shape) (top : ℕ) (xs : List ℕ) → top < shape .width →
+    ((level : ℕ) → level < shape .width → (k : ℕ) → k < shape .rows → (s : ℕ) → values-in shape level xs k s ≡ all-placed k s) →
+    LastIn last round F tail shape top xs
+unfolding last-rows past-last
+placed-in last e round F tail shape top xs l h =
+    record { each = λ k m s n. rw e (h top l k m s); past = λ k m i a b. rw e (rw sub-zero at (h i b k m 0)) }
 
 -- … and before a ruin
 pub ruin-terms : (last : LastRows) (P : ℕ) → last ≡ Ruin P → (shape : Shape) (F : List ℕ) (tail : ℕ) → LastFits last shape F tail → (shape .rows ≡ 1) × RuinTerms F tail P
@@ -148,15 +149,22 @@ ruin-terms last P e shape F tail h = rw e at h
 pub one-row : (shape : Shape) → shape .rows ≡ 1 → rows-size shape ≡ shape .width
 one-row shape one = rw one (one-mul (shape .width))
 
-pub ruin-values :
-    (last : LastRows) (P : ℕ) → last ≡ Ruin P → (round : Rounding) (shape : Shape) (F : List ℕ) (tail top : ℕ) (zeros xs xs′ : List ℕ) → shape .rows ≡ 1 →
-    xs′ ≡ xs → Replaced 0 (top + 1) (λ i. ruin-row round F tail P (top - i)) zeros xs →
-    (k : ℕ) → k < shape .rows → (s : ℕ) → s ≤ top → values-in shape top xs′ k s ≡ last-rows last round F tail k s
-unfolding last-rows
-ruin-values last P e round shape F tail top zeros xs xs′ one same h k l s m =
-    let first : shape .rows - 1 - k ≡ 0 = omega arith in
-    let level : top - (top - s) ≡ s = omega arith in
-    rw (e, same, first, zero-mul (shape .width)) (rw (zero-add, level) at (h .inside (top - s) (omega arith)))
+pub ruin-in :
+    (last : LastRows) (P : ℕ) → last ≡ Ruin P → (round : Rounding) (F : List ℕ) (tail : ℕ) (shape : Shape) (top : ℕ) (xs xs′ : List ℕ) → shape .rows ≡ 1 →
+    xs′ ≡ xs → Replaced 0 (top + 1) (λ i. ruin-row round F tail P (top - i)) (replicate (shape .width) 0) xs → LastIn last round F tail shape top xs′
+unfolding last-rows past-last
+ruin-in last P e round F tail shape top xs xs′ one same h = record { each = each; past = past }
+  where
+    first : (k : ℕ) → k < shape .rows → (shape .rows - 1 - k) * shape .width ≡ 0
+    first k l = let none : shape .rows - 1 - k ≡ 0 = omega arith in rw none (zero-mul (shape .width))
+
+    each : (k : ℕ) → k < shape .rows → (s : ℕ) → s ≤ top → values-in shape top xs′ k s ≡ last-rows last round F tail k s
+    each k l s m =
+        let level : top - (top - s) ≡ s = omega arith in
+        rw (e, same, first k l) (rw (zero-add, level) at (h .inside (top - s) (omega arith)))
+
+    past : (k : ℕ) → k < shape .rows → (i : ℕ) → top < i → i < shape .width → getD (drop ((shape .rows - 1 - k) * shape .width) xs′) i 0 ≡ past-last last k
+    past k l i a b = rw (e, same, first k l) (h .later i (omega arith) ∙ getD-replicate (shape .width) i 0 0 b)
 
 -- The value at the opening is the question's bound, where all months are worked …
 pub bound-is :

@@ -1,5 +1,5 @@
 -- Laws that the functions' proofs cite.
--- a question's refusal and shape, and its answer
+-- the refusal of a call that answers two bounds, a question's shape, and the answer
 pub mod AskLaws
 mod AnswerLaws
 -- the count row

@@ -11,13 +11,24 @@ use Rattle.model.specs.Scale.{Rounding}
 use Rattle.model.specs.Plan.{Plan}
 use Rattle.model.specs.Levels.{row-levels}
 use Rattle.model.specs.MonthRule.{Row, month, values, all-placed, ruin-row}
-use Rattle.month_rule.specs.Shapes.{rows-size, rule-by}
+use Rattle.month_rule.specs.Rows.{at}
+use Rattle.month_rule.specs.Shapes.{rows-size, row-with, values-in, rule-by}
 use Rattle.ruin_rows.specs.Terms.{RuinTerms}
 
 -- their values, by the claims left and the level
 unfoldable pub last-rows : LastRows → Rounding → List ℕ → ℕ → ℕ → Row
 last-rows Placed round severity tail k = all-placed k
 last-rows (Ruin P) round severity tail k = ruin-row round severity tail P
+
+-- what lies in memory past the place of level 0
+unfoldable pub past-last : LastRows → ℕ → ℕ
+past-last Placed k = all-placed k 0
+past-last (Ruin P) k = 0
+
+-- rows in memory that are the last rows, with the level `top` at place 0
+pub record LastIn (last : LastRows) (round : Rounding) (severity : List ℕ) (tail : ℕ) (shape : Shape) (top : ℕ) (xs : List ℕ) : Type 0 where
+  pub each : (k : ℕ) → k < shape .rows → (s : ℕ) → s ≤ top → values-in shape top xs k s ≡ last-rows last round severity tail k s
+  pub past : (k : ℕ) → k < shape .rows → (i : ℕ) → top < i → i < shape .width → at (row-with shape xs k) i ≡ past-last last k
 
 -- what they ask of a shape and of the plan's numbers: ruin is not told apart by claims, so that there is one row
 unfoldable pub LastFits : LastRows → Shape → List ℕ → ℕ → Type 0

@@ -1,13 +1,13 @@
 // The two bounds of a call, worked in the workspace that it needs.
 ghost use mathlib.Core.Path.{_≡_};
-ghost use Prim.Native.Nat.{ℕ, _*_, _-_, _<_, _≤_};
+ghost use Prim.Native.Nat.{_*_, _-_, _<_};
 ghost use lib.ListN.{length, take, drop, replicate};
 ghost use Rattle.model.specs.Scale.{down, up};
 ghost use Rattle.model.specs.Levels.{largest-level};
 ghost use Rattle.model.specs.MonthRule.{month, values};
 ghost use Rattle.month_rule.specs.Rows.{Parts, PlanTerms};
-ghost use Rattle.month_rule.specs.Shapes.{rows-size, values-in, rule-by};
-ghost use Rattle.engine.specs.LastRows.{last-rows, LastFits};
+ghost use Rattle.month_rule.specs.Shapes.{rows-size, rule-by};
+ghost use Rattle.engine.specs.LastRows.{last-rows, LastIn, LastFits};
 use model::GAIN;
 use month_rule::halves;
 use month_rule::halves::Bounds;
@@ -31,12 +31,8 @@ fn put_last(
 )
     requires { ⌜ (length (now halves) ≡ 2 * rows-size shape) × (top < shape .width) ⌝ }
     requires { ⌜ LastFits last shape (now severity) tail ⌝ }
-    ensures lower { λ _.
-        ⌜ ((k : ℕ) → k < shape .rows → (s : ℕ) → s ≤ top →
-        values-in shape top (take (rows-size shape) (now (halves .exit))) k s ≡ last-rows last down (now (severity .entry)) tail k s) ⌝ }
-    ensures upper { λ _.
-        ⌜ ((k : ℕ) → k < shape .rows → (s : ℕ) → s ≤ top →
-        values-in shape top (drop (rows-size shape) (now (halves .exit))) k s ≡ last-rows last up (now (severity .entry)) tail k s) ⌝ }
+    ensures lower { λ _. ⌜ LastIn last down (now (severity .entry)) tail shape top (take (rows-size shape) (now (halves .exit))) ⌝ }
+    ensures upper { λ _. ⌜ LastIn last up (now (severity .entry)) tail shape top (drop (rows-size shape) (now (halves .exit))) ⌝ }
     ensures parts { λ _. ⌜ Parts (now (halves .exit)) ⌝ }
 {
     match last {

@@ -5,9 +5,10 @@ use Prim.Native.Nat.{_*_, _<_}
 use native.Mathlib.Omega.{arith}
 use borrow.Author.Needs.{needs}
 use lib.ListN.{length}
-use Rattle.model.specs.Scale.{down, up}
+use Rattle.model.specs.Scale.{Rounding, down, up}
 use Rattle.model.specs.Plan.{plan-of}
 use Rattle.model.specs.Levels.{row-levels}
+use Rattle.model.specs.Bounds.{bound}
 use Rattle.model.specs.Refusal.{outside, workspace-needed, ask-refusal}
 use Rattle.model.proofs.Facts.{facts, accepted-head}
 use Rattle.model.proofs.Rooms.{rows-few}
@@ -80,14 +81,30 @@ rows-some c =
       rows-few q (known (answered c) .inside),
     )
 
+-- the value of the work, in either rounding, is that of the question
+bound-of :
+    (c : tie.After-shape-of) (round : Rounding) →
+    let a = of-shape c .args in
+    let p = plan-of (a .ask .head) (a .row .now) in
+    opening-value round p (a .ask .head .months) (c .shape-of .result) Placed ≡ bound round p (a .ask .question)
+bound-of c round =
+    let a = of-shape c .args in
+    let h = a .ask .head in
+    let width = c .before .row-levels in
+    let known = known (answered c) in
+    let row-is = facts h (a .row .now) (known .accepted) .row-is in
+    ap (λ s. opening-value round (plan-of h (a .row .now)) (h .months) s Placed) (c .shape-of .ensures)
+    ∙ bound-is round h (a .row .now) row-is (a .ask .question) (known .inside) (width .result) (width .ensures)
+
 work-out-requires : tie.Need-work-out-requires
 unfolding LastFits
 work-out-requires c κs =
-    let shaped = c .before in (
-      known (answered shaped) .accepted,
+    let at-shape = c .before in
+    let known = known (answered at-shape) in (
+      known .accepted,
       (
-        record { wide = width-is shaped; within = omega arith; enough = omega (arith, needed-is shaped, known (answered shaped) .enough) },
-        rows-some shaped,
+        record { wide = width-is at-shape; within = omega arith; enough = omega (arith, needed-is at-shape, known .enough) },
+        rows-some at-shape,
       ),
     )
 
@@ -97,26 +114,19 @@ same-length c = search needs
 returns-2 : tie.Need-returns-2
 unfolding answer
 returns-2 c =
-    let call = c .before .before .work-out in
-    let shaped = c .before .before .before .before in
-    let else1 = answered shaped in
-    let a = of-shape shaped .args in
-    let h = a .ask .head in
+    let worked = c .before .before in
+    let call = worked .work-out in
+    let at-shape = worked .before .before in
+    let else1 = answered at-shape in
+    let a = of-shape at-shape .args in
     let row = a .row .now in
-    let q = a .ask .question in
-    let width = shaped .before .row-levels in
     let none = sym (else1 .before .ask-refusal .ensures) ∙ else1 .if1 .left in
-    let row-is = facts h row (known else1 .accepted) .row-is in
-    let low =
-    ap (λ s. opening-value down (plan-of h row) (h .months) s Placed) (shaped .shape-of .ensures)
-    ∙ bound-is down h row row-is q (known else1 .inside) (width .result) (width .ensures) in
-    let high =
-    ap (λ s. opening-value up (plan-of h row) (h .months) s Placed) (shaped .shape-of .ensures)
-    ∙ bound-is up h row row-is q (known else1 .inside) (width .result) (width .ensures) in
-    let done = worked-out (call .result) (ask-refusal (a .ask) row (length (a .workspace .now))) (call .ensures .0) low high none (enclosure h row (known else1 .accepted) q) in (
+    let done =
+    worked-out (call .result) (ask-refusal (a .ask) row (length (a .workspace .now))) (call .ensures .0) (bound-of at-shape down) (bound-of at-shape up) none
+    (enclosure (a .ask .head) row (known else1 .accepted) (a .ask .question)) in (
       done .0,
       (
-        call .ensures .1 ∙ workspace-cleared _ (workspace-needed (a .ask)) (2 * rows-size (shaped .shape-of .result)) (a .workspace .now) none (needed-is shaped),
+        call .ensures .1 ∙ workspace-cleared _ (workspace-needed (a .ask)) (2 * rows-size (at-shape .shape-of .result)) (a .workspace .now) none (needed-is at-shape),
         λ _. done .1,
       ),
     )

@@ -5,9 +5,10 @@ use native.Mathlib.Omega.{arith}
 use borrow.Author.Needs.{needs}
 use lib.ListN.{length, getD}
 use Rattle.model.specs.declared.Question.the-variants.{Survive}
-use Rattle.model.specs.Scale.{down, up}
+use Rattle.model.specs.Scale.{Rounding, down, up}
 use Rattle.model.specs.Plan.{plan-of}
 use Rattle.model.specs.Levels.{row-levels}
+use Rattle.model.specs.Bounds.{ruin-bound}
 use Rattle.model.specs.Refusal.{outside, month-outside, ruin-workspace, ruin-refusal}
 use Rattle.model.proofs.Facts.{Facts, facts, accepted-head, horizon-is}
 use Rattle.model.proofs.Theorems.{ruin-enclosure}
@@ -88,15 +89,33 @@ needed-is c =
     ap (λ s. 2 * rows-size s) (c .shape-of .ensures)
     ∙ needed-halves (record { head = of-shape c .args .head; question = Survive }) (width .result) (width .ensures)
 
+-- the value of the work, in either rounding, is that of the ruin
+bound-of :
+    (c : tie.After-shape-of) (round : Rounding) →
+    let a = of-shape c .args in
+    let p = plan-of (a .head) (a .row .now) in
+    opening-value round p (a .month - 1) (c .shape-of .result) (Ruin (getD (a .row .now) (a .month - 1) 0)) ≡ ruin-bound round p (a .month)
+bound-of c round =
+    let a = of-shape c .args in
+    let width = c .before .row-levels in
+    let known = inside (answered c) in
+    ap (λ s. opening-value round (plan-of (a .head) (a .row .now)) (a .month - 1) s (Ruin (getD (a .row .now) (a .month - 1) 0))) (c .shape-of .ensures)
+    ∙ ruin-bound-is round (a .head) (a .row .now) (fits (answered c) .row-is) (a .month) (known .0) (known .1) (width .result) (width .ensures) _ refl
+
+-- from where the work is called to the shape
+abbrev shaped : tie.After-work-out-arg → tie.After-shape-of
+shaped c = c .before .before
+
 work-out-requires : tie.Need-work-out-requires
 work-out-requires c κs =
-    let shaped = c .before .before in
-    let a = of-shape shaped .args in
-    let else1 = answered shaped in (
+    let at-shape = shaped c in
+    let shape = at-shape .shape-of in
+    let a = of-shape at-shape .args in
+    let else1 = answered at-shape in (
       known else1 .accepted,
       (
-        record { wide = width-is shaped; within = omega (arith, inside else1); enough = omega (arith, needed-is shaped, known else1 .enough) },
-        ruin-fits (a .head) (a .row .now) (fits else1) (a .month - 1) (shaped .shape-of .result) (shaped .before .row-levels .result) (shaped .shape-of .ensures),
+        record { wide = width-is at-shape; within = omega (arith, inside else1); enough = omega (arith, needed-is at-shape, known else1 .enough) },
+        ruin-fits (a .head) (a .row .now) (fits else1) (a .month - 1) (shape .result) (at-shape .before .row-levels .result) (shape .ensures),
       ),
     )
 
@@ -106,28 +125,20 @@ same-length c = search needs
 returns-2 : tie.Need-returns-2
 unfolding ruin-answer
 returns-2 c =
-    let call = c .before .before .work-out in
-    let shaped = c .before .before .before .before .before in
-    let else1 = answered shaped in
-    let a = of-shape shaped .args in
+    let worked = c .before .before in
+    let call = worked .work-out in
+    let at-shape = shaped (worked .before) in
+    let else1 = answered at-shape in
+    let a = of-shape at-shape .args in
     let h = a .head in
     let row = a .row .now in
-    let t = a .month in
-    let width = shaped .before .row-levels in
     let none = sym (else1 .before .ruin-refusal .ensures) ∙ else1 .if1 .left in
-    let row-is = fits else1 .row-is in
-    let P = getD row (t - 1) 0 in
-    let low =
-    ap (λ s. opening-value down (plan-of h row) (t - 1) s (Ruin P)) (shaped .shape-of .ensures)
-    ∙ ruin-bound-is down h row row-is t (inside else1 .0) (inside else1 .1) (width .result) (width .ensures) P refl in
-    let high =
-    ap (λ s. opening-value up (plan-of h row) (t - 1) s (Ruin P)) (shaped .shape-of .ensures)
-    ∙ ruin-bound-is up h row row-is t (inside else1 .0) (inside else1 .1) (width .result) (width .ensures) P refl in
-    let encloses = ruin-enclosure h row (known else1 .accepted) t (inside else1 .0) (rw (horizon-is h row row-is) (inside else1 .1)) in
-    let done = worked-out (call .result) (ruin-refusal h t row (length (a .workspace .now))) (call .ensures .0) low high none encloses in (
+    let done =
+    worked-out (call .result) (ruin-refusal h (a .month) row (length (a .workspace .now))) (call .ensures .0) (bound-of at-shape down) (bound-of at-shape up) none
+    (ruin-enclosure h row (known else1 .accepted) (a .month) (inside else1 .0) (rw (horizon-is h row (fits else1 .row-is)) (inside else1 .1))) in (
       done .0,
       (
-        call .ensures .1 ∙ workspace-cleared _ (ruin-workspace h) (2 * rows-size (shaped .shape-of .result)) (a .workspace .now) none (needed-is shaped),
+        call .ensures .1 ∙ workspace-cleared _ (ruin-workspace h) (2 * rows-size (at-shape .shape-of .result)) (a .workspace .now) none (needed-is at-shape),
         λ _. done .1,
       ),
     )
