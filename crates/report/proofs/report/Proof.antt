@@ -1,5 +1,6 @@
 -- `report::report` meets its contract: the text is appended to none, and stands before what the buffer had past it. Assumes nothing.
 use mathlib.Core.Path.{sym}
+use native.Mathlib.Omega.{arith}
 use borrow.Author.Needs.{needs}
 use lib.Seq.{length-take-le}
 use Rattle.model.specs.Levels.{gain}
@@ -22,7 +23,7 @@ slice-aggregate-put-report-2 c = search needs
 
 put-report-requires : tie.Need-put-report-requires
 unfolding most-lines gain
-put-report-requires c κs = search needs
+put-report-requires c κs = record { of-text = omega arith; of-row = search needs; of-workspace = search needs }
 
 returns : tie.Need-returns
 returns c =

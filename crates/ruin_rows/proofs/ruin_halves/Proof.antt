@@ -52,14 +52,15 @@ second-zeros : (c : tie.After-fill) → drop (of-fill c .args .half) (c .fill .l
 second-zeros c = zeros-second (c .fill .last .0) _ (of-fill c .args .half) (c .fill .ensures) (of-fill c .pre .0 .0)
 
 -- what a row needs of a half that is all 0
-needed :
-    (s : tie.Start) (bias : ℕ) (part : List ℕ) → bias < S → part ≡ replicate (s .args .half) 0 →
-    (s .args .top < length part) × Parts part × (bias < S)
-needed s bias part b e = rw e (rw length-replicate (s .pre .0 .1), parts-replicate (s .args .half) 0 zero-le, b)
+needed : (s : tie.Start) (part : List ℕ) → part ≡ replicate (s .args .half) 0 → (s .args .top < length part) × Parts part
+needed s part e = rw e (rw length-replicate (s .pre .0 .1), parts-replicate (s .args .half) 0 zero-le)
 
 ruin-row-requires : tie.Need-ruin-row-requires
 unfolding S
-ruin-row-requires c κs = let s = of-fill (filled c) in (needed s 0 _ (omega arith) (first-zeros (filled c)), s .pre .1)
+ruin-row-requires c κs =
+    let s = of-fill (filled c) in
+    let zeros = needed s _ (first-zeros (filled c)) in
+    ((zeros .0, zeros .1, omega arith), s .pre .1)
 
 -- the second half as it is lent
 second :
@@ -86,7 +87,8 @@ ruin-row-requires-2 : tie.Need-ruin-row-requires-2
 unfolding S
 ruin-row-requires-2 c κs =
     let s = of-fill (of-lower (lower c)) in
-    (needed s (S - 1) _ (omega arith) (second (lower c) ∙ second-zeros (of-lower (lower c))), s .pre .1)
+    let zeros = needed s _ (second (lower c) ∙ second-zeros (of-lower (lower c))) in
+    ((zeros .0, zeros .1, omega arith), s .pre .1)
 
 same-length : tie.Need-same-length
 same-length c = search needs
