@@ -5,8 +5,9 @@ use model::Ask;
 use model::Head;
 use model::Question;
 ghost use mathlib.Core.Path.{_≡_};
-ghost use mathlib.Core.List.{[], _∷_};
-ghost use Rattle.model.specs.Refusal.{first, asked-checks, room-check, month-outside, ask-refusal, ruin-refusal};
+ghost use mathlib.Core.Bool.{false};
+ghost use Rattle.model.specs.Refusal.{first, asked-checks, workspace-needed, month-outside, bounds-refusal, ask-refusal, ruin-refusal};
+ghost use Rattle.model.specs.Refusal.{outside as Refusal·outside};
 
 // The checks of the plan, then 10 where what is asked of it is outside the limits.
 fn asked_refusal(head: Head, row: &[u32], outside: bool) -> u32
@@ -19,23 +20,24 @@ fn asked_refusal(head: Head, row: &[u32], outside: bool) -> u32
     if outside { 10 } else { 0 }
 }
 
-// 11 where the workspace is too short.
-fn room_refusal(needed: usize, room: usize) -> u32
-    ensures { λ r. ⌜ r ≡ first (room-check needed room ∷ []) ⌝ }
+// Those checks, then 11 where the workspace is shorter than the question needs, which has to be within its limits where what is asked is.
+fn bounds_refusal(ask: Ask, row: &[u32], outside: bool, room: usize) -> u32
+    requires { ⌜ (outside ≡ false → Refusal·outside (ask .question) ≡ false) ⌝ }
+    ensures { λ r. ⌜ r ≡ bounds-refusal (ask .head) (now (row .entry)) outside (workspace-needed ask) room ⌝ }
 {
-    if room < needed { 11 } else { 0 }
+    let head = ask.head;
+    let refused = asked_refusal(head, row, outside);
+    if refused != 0 {
+        return refused;
+    }
+    if room < workspace_needed(ask) { 11 } else { 0 }
 }
 
 pub fn ask_refusal(ask: Ask, row: &[u32], room: usize) -> u32
     ensures { λ r. ⌜ r ≡ ask-refusal ask (now (row .entry)) room ⌝ }
 {
-    let head = ask.head;
     let question = ask.question;
-    let refused = asked_refusal(head, row, is_outside(question));
-    if refused != 0 {
-        return refused;
-    }
-    room_refusal(workspace_needed(ask), room)
+    bounds_refusal(ask, row, is_outside(question), room)
 }
 
 // Months are counted from 1.
@@ -48,13 +50,15 @@ fn month_is_outside(head: Head, month: usize) -> bool
     head.months < month
 }
 
+// In the workspace of survive.
 pub fn ruin_refusal(head: Head, month: usize, row: &[u32], room: usize) -> u32
     ensures { λ r. ⌜ r ≡ ruin-refusal head month (now (row .entry)) room ⌝ }
 {
-    let refused = asked_refusal(head, row, month_is_outside(head, month));
-    if refused != 0 {
-        return refused;
-    }
     let question = Question::Survive;
-    room_refusal(workspace_needed(Ask { head, question }), room)
+    bounds_refusal(
+        Ask { head, question },
+        row,
+        month_is_outside(head, month),
+        room,
+    )
 }
