@@ -5,7 +5,7 @@ use mathlib.Core.List.{List, _++_}
 use Prim.Native.Nat.{ℕ, zero, suc, _+_, _*_, _-_, _≤_, _<_}
 use native.Mathlib.Nat.{le-refl, mul-assoc, mul-comm, one-mul, sub-zero, zero-add, zero-mul}
 use native.Mathlib.Omega.{arith}
-use lib.ListN.{length, getD, take, drop, replicate, getD-replicate}
+use lib.ListN.{length, getD, take, drop, replicate, getD-replicate, length-take}
 use lib.Seq.{length-take-le, take-all, take-take, getD-take}
 use borrow.Author.Tests.{ne-eqb}
 use Rattle.model.specs.declared.Head.{Head}
@@ -25,7 +25,8 @@ use Rattle.engine.specs.declared.Answer.{Answer}
 use Rattle.engine.specs.declared.bounds.LastRows.{LastRows}
 use Rattle.engine.specs.declared.bounds.LastRows.the-variants.{Placed, Ruin}
 use Rattle.month_rule.specs.declared.rows.Shape.{Shape}
-use Rattle.month_rule.specs.Rows.{Parts, PlanTerms, Replaced}
+use Rattle.claims.specs.Values.{Parts}
+use Rattle.month_rule.specs.Rows.{PlanTerms, Replaced}
 use Rattle.month_rule.specs.Shapes.{rows-size, values-in, rule-by}
 use Rattle.month_rule.proofs.RowLaws.{parts-part}
 use Rattle.ruin_rows.specs.Terms.{RuinTerms}
@@ -90,6 +91,7 @@ pub terms-lent :
 terms-lent h row f months =
     record {
       weights-fit = rw (severity-lent h row) (omega (arith, f .weights-add));
+      sizes-fit = simp length-take (omega (arith, f .head .sizes-fit));
       chances-fit = chances-parts h row f months;
     }
 

@@ -20,7 +20,8 @@ use Rattle.model.specs.Refusal.{plan-refusal, Accepted}
 use Rattle.model.proofs.Month.{mixture-le}
 use Rattle.model.proofs.Theorems.{count-enclosure}
 use Rattle.engine.specs.declared.CountRow.{CountRow}
-use Rattle.month_rule.specs.Rows.{at, Parts, round-by}
+use Rattle.claims.specs.Values.{Parts}
+use Rattle.month_rule.specs.Rows.{at, round-by}
 use Rattle.engine.specs.Counts.{CountParts, rows-after}
 use Rattle.engine.specs.declared.CountAnswer.{CountAnswer}
 use Rattle.engine.specs.Answers.{count-rows, count-refused, count-answer}

@@ -1,7 +1,7 @@
 -- Laws that the functions' proofs cite.
 -- the refusal of a call that answers two bounds, a question's shape, and the answer
 pub mod AskLaws
-mod AnswerLaws
+pub mod AnswerLaws
 -- the count row
 mod CountLaws
 -- several calls together

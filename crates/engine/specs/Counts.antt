@@ -6,7 +6,8 @@ use Rattle.model.specs.Limits.{places}
 use Rattle.engine.specs.declared.CountRow.{CountRow}
 use Rattle.model.specs.Scale.{down, up}
 use Rattle.model.specs.CountRow.{count-month, tabulate}
-use Rattle.month_rule.specs.Rows.{at, Parts}
+use Rattle.claims.specs.Values.{Parts}
+use Rattle.month_rule.specs.Rows.{at}
 
 -- both rows are whole and in parts of S
 pub record CountParts (row : CountRow) : Type 0 where

@@ -11,7 +11,8 @@ ghost use mathlib.Core.List.{[]};
 ghost use lib.ListN.{length};
 ghost use Rattle.model.specs.Scale.{S};
 ghost use Rattle.model.specs.CountRow.{count-month, tabulate};
-ghost use Rattle.month_rule.specs.Rows.{at, Parts, round-by};
+ghost use Rattle.claims.specs.Values.{Parts};
+ghost use Rattle.month_rule.specs.Rows.{at, round-by};
 ghost use Rattle.engine.specs.Counts.{CountParts, rows-after};
 ghost use Rattle.engine.specs.Answers.{count-rows, count-refused};
 

@@ -4,6 +4,7 @@ pub mod LevelLaws
 pub mod Facts
 pub mod Rooms
 pub mod Month
+pub mod FilledLaws
 pub mod Values
 pub mod Histories
 pub mod Unrounded

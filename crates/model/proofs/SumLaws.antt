@@ -5,7 +5,9 @@ use Prim.Native.Nat.{ℕ, zero, suc, _+_, _*_, _^_, _≤_, zero-le, _<_, min}
 use native.Mathlib.Nat.{mul-add, add-mul, mul-zero, zero-mul, suc-mul, pow-succ', zero-add, min-zero, zero-min, suc-min-suc}
 use native.Mathlib.Omega.{arith}
 use lib.ListN.{length, drop}
-use Rattle.model.specs.Sums.{sum, product, one-to, total}
+use lib.Dec.{ltb}
+use borrow.Author.Tests.{lt-ltb}
+use Rattle.model.specs.Sums.{sum, product, one-to, total, count}
 use Rattle.model.specs.Plan.{nth}
 
 -- terms that agree have equal sums
@@ -110,3 +112,13 @@ pow-two-more b n =
   where
     twice : 2 * suc n ≡ suc (suc (2 * n))
     twice = omega arith
+
+-- the numbers of a list that are above 0: one that is not …
+pub positive-none : (xs : List ℕ) → count (λ x. ltb 0 x) (0 ∷ xs) ≡ count (λ x. ltb 0 x) xs
+unfolding count
+positive-none xs = zero-add _
+
+-- … and one that is
+pub positive-more : (x : ℕ) (xs : List ℕ) → 0 < x → count (λ x. ltb 0 x) (x ∷ xs) ≡ 1 + count (λ x. ltb 0 x) xs
+unfolding count
+positive-more x xs l = rw (lt-ltb 0 x l)

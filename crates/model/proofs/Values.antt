@@ -6,9 +6,7 @@ use mathlib.Core.Option.{Option, none, some}
 use Prim.Native.Nat.{ℕ, zero, suc, _+_, _*_, _-_, _^_, _≤_}
 use native.Mathlib.Nat.{pow-zero, add-mul, mul-assoc, one-mul, zero-mul, zero-add, le-refl}
 use native.Mathlib.Omega.{arith}
-use lib.Dec.{ltb}
 use lib.ListN.{length, getD, take}
-use borrow.Author.Tests.{lt-ltb}
 use Rattle.model.specs.declared.Question.{Question}
 use Rattle.model.specs.declared.Question.the-variants.{Survive, Both, High, Low}
 use Rattle.model.specs.Scale.{S, Rounding, down, up}
@@ -16,7 +14,7 @@ use Rattle.model.specs.Sums.{total, count}
 use Rattle.model.specs.Levels.{gain}
 use Rattle.model.specs.MonthRule.{Row, Month, Rule, month, exact-month, kept, claimed-row, month-back, values, all-placed, last-of}
 use Rattle.model.specs.Bounds.{live-months, month-gap}
-use Rattle.model.proofs.SumLaws.{pow-two-more}
+use Rattle.model.proofs.SumLaws.{pow-two-more, positive-none, positive-more}
 use Rattle.model.proofs.Month.{Direction, Within, MonthFits, claim-sum-times, month-encloses, month-fits, month-gap-live, month-gap-idle}
 
 -- A relation between the values of two month rules, which may speak of the chances still to come: if it holds of 0 and of the last row, and
@@ -116,16 +114,12 @@ values-fit round within F hF q last hl =
     (λ P Qs hP X Y X′ Y′ hx hy s. month-fits round within F hF P hP X Y hx hy s .value)
 
 pub live-months-idle : (Ps : List ℕ) → live-months (0 ∷ Ps) ≡ live-months Ps
-unfolding live-months count
-live-months-idle Ps = zero-add _
-
-count-more : (test : ℕ → Bool) (x : ℕ) (xs : List ℕ) → test x ≡ true → count test (x ∷ xs) ≡ 1 + count test xs
-unfolding count
-count-more test x xs e = rw e
+unfolding live-months
+live-months-idle Ps = positive-none Ps
 
 pub live-months-live : (P : ℕ) (Ps : List ℕ) → live-months (suc P ∷ Ps) ≡ 1 + live-months Ps
 unfolding live-months
-live-months-live P Ps = count-more (λ chance. ltb 0 chance) (suc P) Ps (lt-ltb 0 (suc P) (omega arith))
+live-months-live P Ps = positive-more (suc P) Ps (omega arith)
 
 pub live-months-append : (Ps Qs : List ℕ) → live-months (Ps ++ Qs) ≡ live-months Ps + live-months Qs
 unfolding live-months count

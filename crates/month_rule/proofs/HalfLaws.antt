@@ -10,7 +10,7 @@ use lib.Seq.{length-take-le, length-front, take-at, drop-at, take-all, getD-drop
 use Rattle.model.specs.Scale.{S}
 use Rattle.model.specs.MonthRule.{all-placed}
 use Rattle.month_rule.specs.declared.rows.Shape.{Shape}
-use Rattle.month_rule.specs.Rows.{Parts}
+use Rattle.claims.specs.Values.{Parts}
 use Rattle.month_rule.specs.Shapes.{rows-size, values-in, RowsIn, HalvesIn}
 use Rattle.month_rule.proofs.RowLaws.{parts-part, parts-drop}
 use Rattle.month_rule.proofs.ForbidLaws.{getD-zeros}

@@ -16,7 +16,8 @@ use lib.Seq.{length-take-le, getD-take, getD-drop}
 use Rattle.model.specs.Scale.{S}
 use Rattle.model.specs.MonthRule.{Row, kept}
 use Rattle.month_rule.specs.declared.rows.Shape.{Shape}
-use Rattle.month_rule.specs.Rows.{at, Parts, between}
+use Rattle.claims.specs.Values.{Parts}
+use Rattle.month_rule.specs.Rows.{at, between}
 use Rattle.month_rule.specs.Shapes.{row-with, values-in, RowsIn, allowed-places}
 use Rattle.month_rule.proofs.ValueLaws.{below-or-not}
 use Rattle.month_rule.proofs.RowLaws.{parts-part}

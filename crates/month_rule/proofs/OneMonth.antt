@@ -16,7 +16,8 @@ use Rattle.model.specs.Levels.{gain}
 use Rattle.model.specs.MonthRule.{Row, month, claimed-row}
 use Rattle.model.proofs.LevelLaws.{gain-some}
 use Rattle.model.proofs.Month.{claim-sum-none, claim-sum-zero}
-use Rattle.month_rule.specs.Rows.{at, from-top, Parts, Replaced, round-by, own-sizes, after-claim-by}
+use Rattle.claims.specs.Values.{from-top, Parts}
+use Rattle.month_rule.specs.Rows.{at, Replaced, round-by, own-sizes, after-claim-by}
 use Rattle.month_rule.proofs.RowLaws.{claim-sum-agree, row-before}
 use Rattle.month_rule.proofs.ManyRows.{rows-at, row-before-row}
 

@@ -10,9 +10,12 @@ use lib.Seq.{length-take-le, getD-take, getD-drop, getD-set-same, getD-set-other
 use Rattle.model.specs.Scale.{S}
 use Rattle.model.specs.Levels.{gain}
 use Rattle.model.specs.MonthRule.{Row, claim-sum, month}
+use Rattle.model.specs.FilledSizes.{filled-sum}
 use Rattle.model.proofs.LevelLaws.{gain-some}
 use Rattle.model.proofs.Month.{claim-sum-none, claim-sum-ground, claim-sum-cons}
-use Rattle.month_rule.specs.Rows.{from-top, Parts, Replaced, round-by}
+use Rattle.model.proofs.FilledLaws.{filled-sum-is}
+use Rattle.claims.specs.Values.{from-top, Parts}
+use Rattle.month_rule.specs.Rows.{Replaced, round-by}
 
 -- the claim sum reads the levels above 0 and below its own
 pub claim-sum-agree :
@@ -50,6 +53,9 @@ parts-drop xs a h = record { each = λ k. rw (getD-drop a xs k 0) (h .each (a + 
 
 pub parts-part : (xs : List ℕ) (a n : ℕ) → Parts xs → Parts (take n (drop a xs))
 parts-part xs a n h = record { each = λ k. le-trans (getD-take-le n (drop a xs) k) (parts-drop xs a h .each k) }
+
+pub length-part : (xs : List ℕ) (from to : ℕ) → from ≤ to → to ≤ length xs → length (take (to - from) (drop from xs)) ≡ to - from
+length-part xs from to l m = length-take-le (to - from) (drop from xs) (omega (arith, length-drop from xs))
 
 -- a part while it is filled
 pub record FilledTo (old : List ℕ) (value : ℕ) (part : List ℕ) (k : ℕ) : Type 0 where
@@ -107,13 +113,14 @@ module _ (old F : List ℕ) (quiet claimed top live P bias : ℕ) (order : quiet
       (rows : List ℕ) (i : ℕ) → i < live → claimed + top ≤ length rows →
       Rewriting old quiet (row-before bias F P quiet claimed top live old) rows i →
       (n : ℕ) (xs : List ℕ) → xs ≡ take (claimed + top - (claimed + i + 1)) (drop (claimed + i + 1) rows) → n ≡ length xs →
-      claim-sum F (from-top n xs) (n + 1) ≡ claim-sum F (from-top top (drop claimed old)) (top - i)
-  sum-beyond rows i l fits h n xs ex en =
+      (sum : ℕ) → sum ≡ filled-sum F (from-top n xs) (n + 1) → sum ≡ claim-sum F (from-top top (drop claimed old)) (top - i)
+  sum-beyond rows i l fits h n xs ex en sum es =
       let inside : i < top = omega (arith, gain-some) in
-      let count : length xs ≡ top - (i + 1) =
-      ap length ex ∙ length-take-le (claimed + top - (claimed + i + 1)) (drop (claimed + i + 1) rows) (omega (arith, length-drop (claimed + i + 1) rows)) ∙ omega arith in
+      let count : length xs ≡ top - (i + 1) = ap length ex ∙ length-part rows (claimed + i + 1) (claimed + top) (omega arith) fits ∙ omega arith in
       let whole : n + 1 ≡ top - i = omega arith in
-      rw whole (claim-sum-agree F (from-top n xs) (from-top top (drop claimed old)) (top - i) (λ s a b. same s a b (omega arith)))
+      es
+      ∙ filled-sum-is F (from-top n xs) (n + 1)
+      ∙ rw whole (claim-sum-agree F (from-top n xs) (from-top top (drop claimed old)) (top - i) (λ s a b. same s a b (omega arith)))
     where
       same : (s : ℕ) → 0 < s → s < top - i → n ≡ top - (i + 1) → getD xs (n - s) 0 ≡ getD (drop claimed old) (top - s) 0
       same s a b e =
@@ -127,9 +134,9 @@ module _ (old F : List ℕ) (quiet claimed top live P bias : ℕ) (order : quiet
 
   pub value-before :
       (i quiet-value sum : ℕ) → i < live → quiet-value ≡ getD old (quiet + i) 0 → sum ≡ claim-sum F (from-top top (drop claimed old)) (top - i) →
-      round-by bias ((S - P) * quiet-value + P * round-by bias sum) ≡ row-before bias F P quiet claimed top live old i
+      (value : ℕ) → value ≡ round-by bias ((S - P) * quiet-value + P * round-by bias sum) → value ≡ row-before bias F P quiet claimed top live old i
   unfolding month
-  value-before i quiet-value sum l e f =
+  value-before i quiet-value sum l e f value ev =
       let level : live - 1 - i + gain ≡ top - i = omega arith in
       let place : top - (top - i) ≡ i = omega (arith, gain-some) in
-      rw (level, e, f, getD-drop quiet old (top - (top - i)) 0, place)
+      ev ∙ rw (level, e, f, getD-drop quiet old (top - (top - i)) 0, place)

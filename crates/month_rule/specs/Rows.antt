@@ -5,32 +5,29 @@ use mathlib.Core.Bool.{Bool, _&&_, cond}
 use mathlib.Core.List.{List}
 use mathlib.Core.Option.{Option, none, some}
 use lib.Dec.{leb, ltb}
-use lib.ListN.{getD}
+use lib.ListN.{length, getD}
+use Rattle.model.specs.Limits.{max-sizes}
 use Rattle.model.specs.Scale.{S, Rounding}
 use Rattle.model.specs.Sums.{total}
 use Rattle.model.specs.MonthRule.{Row}
+use Rattle.claims.specs.Values.{Parts}
+use Rattle.claims.specs.Listing.{Listing}
 
 -- a list as a row: the index is the place
 abbrev pub at : List ℕ → Row
 at xs i = getD xs i 0
 
--- A list as a row of levels. The place is what has been paid in claims: place i holds the level i below the largest, `top`.
-abbrev pub from-top : ℕ → List ℕ → Row
-from-top top xs s = getD xs (top - s) 0
-
--- every number is at most S
-pub record Parts (xs : List ℕ) : Type 0 where
-  pub each : (k : ℕ) → getD xs k 0 ≤ S
-
--- What a month takes beside its rows: weights that add up to at most S, a chance, and a bias to round with.
-pub record MonthTerms (severity : List ℕ) (chance bias : ℕ) : Type 0 where
+-- What a month takes beside its rows: weights that add up to at most S, the sizes of the table that are not empty, a chance, and a bias to round with.
+pub record MonthTerms (severity sizes : List ℕ) (dense chance bias : ℕ) : Type 0 where
   pub weights-fit : total severity ≤ S
+  pub listing : Listing severity sizes dense
   pub chance-fits : chance ≤ S
   pub bias-fits : bias < S
 
 -- what all months take
 pub record PlanTerms (severity chances : List ℕ) : Type 0 where
   pub weights-fit : total severity ≤ S
+  pub sizes-fit : length severity ≤ max-sizes
   pub chances-fit : Parts chances
 
 -- So many places from `from` on hold new values, and all others what they held.

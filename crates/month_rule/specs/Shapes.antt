@@ -8,7 +8,8 @@ use Rattle.month_rule.specs.declared.rows.Shape.{Shape}
 use Rattle.model.specs.Scale.{Rounding}
 use Rattle.model.specs.Levels.{gain, largest-level}
 use Rattle.model.specs.MonthRule.{Row, Rule, kept, month, values}
-use Rattle.month_rule.specs.Rows.{after-claim-by, at, between, from-top, Parts}
+use Rattle.claims.specs.Values.{from-top, Parts}
+use Rattle.month_rule.specs.Rows.{after-claim-by, at, between}
 
 -- the numbers of all rows of a shape
 abbrev pub rows-size : Shape → ℕ

@@ -6,13 +6,17 @@ ghost use lib.ListN.{length, getD, take, drop, replicate};
 ghost use Rattle.model.specs.Scale.{down, up};
 ghost use Rattle.model.specs.Levels.{largest-level};
 ghost use Rattle.model.specs.MonthRule.{all-placed};
-ghost use Rattle.month_rule.specs.Rows.{Parts, PlanTerms};
+ghost use Rattle.claims.specs.Values.{Parts};
+ghost use Rattle.claims.specs.Listing.{Listing};
+ghost use Rattle.month_rule.specs.Rows.{PlanTerms};
 ghost use Rattle.month_rule.specs.Shapes.{rows-size, values-in, HalvesIn, TakenBack};
 use crate::months::all_months_back;
 use crate::rows::Shape;
 use crate::rows::fill;
 use crate::value::ROUND_DOWN;
 use crate::value::ROUND_UP;
+use claims::sizes::filled_sizes;
+use claims::sizes::gapless_sizes;
 
 // A lower and an upper bound in parts of S.
 pub struct Bounds {
@@ -48,7 +52,49 @@ pub fn last_halves(halves: &mut [u32], shape: Shape)
     last_rows(&mut halves[half..], shape);
 }
 
-// Both halves back through the months, the first rounded down and the second up.
+// Both halves back through the months, with the listed sizes that are not empty.
+fn listed_halves_back(
+    halves: &mut [u32],
+    shape: Shape,
+    opening: usize,
+    chances: &[u32],
+    severity: &[u32],
+    sizes: &[usize],
+    dense: usize,
+)
+    requires { ⌜ HalvesIn shape (now halves) ⌝ }
+    requires { ⌜ largest-level opening (length (now chances)) < shape .width ⌝ }
+    requires { ⌜ PlanTerms (now severity) (now chances) ⌝ }
+    requires { ⌜ Listing (now severity) (now sizes) dense ⌝ }
+    ensures lower { λ _.
+        ⌜ TakenBack down (now (severity .entry)) shape opening (now (chances .entry)) (take (rows-size shape) (now (halves .entry))) (take (rows-size shape) (now (halves .exit))) ⌝ }
+    ensures upper { λ _.
+        ⌜ TakenBack up (now (severity .entry)) shape opening (now (chances .entry)) (drop (rows-size shape) (now (halves .entry))) (drop (rows-size shape) (now (halves .exit))) ⌝ }
+{
+    let half = shape.rows * shape.width;
+    all_months_back(
+        &mut halves[..half],
+        shape,
+        opening,
+        chances,
+        severity,
+        sizes,
+        dense,
+        ROUND_DOWN,
+    );
+    all_months_back(
+        &mut halves[half..],
+        shape,
+        opening,
+        chances,
+        severity,
+        sizes,
+        dense,
+        ROUND_UP,
+    );
+}
+
+// Both halves back through the months, the first rounded down and the second up. The sizes that are not empty are listed once for all of it.
 pub fn halves_back(
     halves: &mut [u32],
     shape: Shape,
@@ -64,22 +110,18 @@ pub fn halves_back(
     ensures upper { λ _.
         ⌜ TakenBack up (now (severity .entry)) shape opening (now (chances .entry)) (drop (rows-size shape) (now (halves .entry))) (drop (rows-size shape) (now (halves .exit))) ⌝ }
 {
-    let half = shape.rows * shape.width;
-    all_months_back(
-        &mut halves[..half],
+    let filled = filled_sizes(severity);
+    let sizes = filled.sizes;
+    let count = filled.count;
+    let dense = gapless_sizes(severity);
+    listed_halves_back(
+        halves,
         shape,
         opening,
         chances,
         severity,
-        ROUND_DOWN,
-    );
-    all_months_back(
-        &mut halves[half..],
-        shape,
-        opening,
-        chances,
-        severity,
-        ROUND_UP,
+        &sizes[..count],
+        dense,
     );
 }
 

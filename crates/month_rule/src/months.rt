@@ -5,7 +5,9 @@ ghost use lib.ListN.{length};
 ghost use Rattle.model.specs.Scale.{S};
 ghost use Rattle.model.specs.Levels.{gain, largest-level};
 ghost use Rattle.model.specs.MonthRule.{kept, month, month-back};
-ghost use Rattle.month_rule.specs.Rows.{at, Parts, MonthTerms, PlanTerms, round-by};
+ghost use Rattle.claims.specs.Values.{Parts};
+ghost use Rattle.claims.specs.Listing.{Listing};
+ghost use Rattle.month_rule.specs.Rows.{at, MonthTerms, PlanTerms, round-by};
 ghost use Rattle.month_rule.specs.Shapes.{row-with, values-in, RowsIn, TopIn, rule-by, allowed-places, TakenBack};
 use crate::rows::Shape;
 use crate::rows::all_rows_back;
@@ -18,12 +20,14 @@ pub fn month_back(
     shape: Shape,
     top: usize,
     severity: &[u32],
+    sizes: &[usize],
+    dense: usize,
     chance: u32,
     bias: u64,
 )
     requires { ⌜ RowsIn shape (now rows) ⌝ }
     requires { ⌜ TopIn shape top ⌝ }
-    requires { ⌜ MonthTerms (now severity) chance bias ⌝ }
+    requires { ⌜ MonthTerms (now severity) (now sizes) dense chance bias ⌝ }
     ensures back { λ _.
         ⌜ ((k : ℕ) → k < shape .rows → (s : ℕ) → s + gain ≤ top →
         values-in shape (top - gain) (now (rows .exit)) k s
@@ -34,7 +38,7 @@ pub fn month_back(
     ensures parts { λ _. ⌜ Parts (now (rows .exit)) ⌝ }
 {
     forbid_rows(rows, shape, top);
-    all_rows_back(rows, shape, top, severity, chance, bias);
+    all_rows_back(rows, shape, top, severity, sizes, dense, chance, bias);
 }
 
 // All months, the last one first: from the largest level at place 0 to the opening there.
@@ -44,11 +48,14 @@ pub fn all_months_back(
     opening: usize,
     chances: &[u32],
     severity: &[u32],
+    sizes: &[usize],
+    dense: usize,
     bias: u64,
 )
     requires { ⌜ RowsIn shape (now rows) ⌝ }
     requires { ⌜ (largest-level opening (length (now chances)) < shape .width) × (bias < S) ⌝ }
     requires { ⌜ PlanTerms (now severity) (now chances) ⌝ }
+    requires { ⌜ Listing (now severity) (now sizes) dense ⌝ }
     ensures values { λ _. ⌜ TakenBack (round-by bias) (now (severity .entry)) shape opening (now (chances .entry)) (now (rows .entry)) (now (rows .exit)) ⌝ }
     ensures parts { λ _. ⌜ Parts (now (rows .exit)) ⌝ }
 {
@@ -56,6 +63,15 @@ pub fn all_months_back(
         return;
     }
     let after = opening + GAIN;
-    all_months_back(rows, shape, after, &chances[1..], severity, bias);
-    month_back(rows, shape, after, severity, chances[0], bias);
+    all_months_back(
+        rows,
+        shape,
+        after,
+        &chances[1..],
+        severity,
+        sizes,
+        dense,
+        bias,
+    );
+    month_back(rows, shape, after, severity, sizes, dense, chances[0], bias);
 }

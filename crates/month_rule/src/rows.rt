@@ -5,10 +5,12 @@ ghost use Prim.Native.Nat.{ℕ, _+_, _-_, _<_, _≤_};
 ghost use lib.ListN.{length, drop, replicate};
 ghost use Rattle.model.specs.Levels.{gain};
 ghost use Rattle.model.specs.MonthRule.{month, kept, claimed-row};
-ghost use Rattle.month_rule.specs.Rows.{at, from-top, Parts, MonthTerms, Replaced, round-by, between, own-sizes, after-claim-by};
+ghost use Rattle.claims.specs.Values.{from-top, Parts};
+ghost use Rattle.month_rule.specs.Rows.{at, MonthTerms, Replaced, round-by, between, own-sizes, after-claim-by};
 ghost use Rattle.month_rule.specs.Shapes.{row-with, values-in, RowsIn, TopIn, allowed-places};
-use crate::value::claim_sum;
 use crate::value::month_value;
+use claims::sizes::first_within;
+use claims::sum::claim_sum;
 use model::GAIN;
 use numbers::difference;
 use numbers::lesser;
@@ -34,7 +36,8 @@ pub fn fill(part: &mut [u32], value: u32)
 }
 
 // The row at index `quiet` goes back one month: its first `live` places, from level live - 1 down to 0. After a claim the row at index `claimed` is
-// read, which lies no earlier; place 0 held the level `top`, and no claim leads to level 0, at place `top`.
+// read, which lies no earlier; place 0 held the level `top`, and no claim leads to level 0, at place `top`. As the levels fall, the largest sizes leave the
+// range for good.
 pub fn row_back(
     rows: &mut [u32],
     quiet: usize,
@@ -42,12 +45,14 @@ pub fn row_back(
     top: usize,
     live: usize,
     severity: &[u32],
+    sizes: &[usize],
+    dense: usize,
     chance: u32,
     bias: u64,
 )
     requires { ⌜ (quiet ≤ claimed) × (live + gain ≡ top + 1) × (claimed + top ≤ length (now rows)) ⌝ }
     requires { ⌜ Parts (now rows) ⌝ }
-    requires { ⌜ MonthTerms (now severity) chance bias ⌝ }
+    requires { ⌜ MonthTerms (now severity) (now sizes) dense chance bias ⌝ }
     ensures rewritten { λ _.
         ⌜ Replaced quiet live
         (λ i. month (round-by bias) (now (severity .entry)) chance (from-top top (drop quiet (now (rows .entry)))) (from-top top (drop claimed (now (rows .entry)))) (live - 1 - i))
@@ -55,12 +60,15 @@ pub fn row_back(
     ensures parts { λ _. ⌜ Parts (now (rows .exit)) ⌝ }
 {
     let end = claimed + top;
+    let mut first = 0;
     let mut i = 0;
     while i < live {
         let next = claimed + i + 1;
-        let sum = claim_sum(severity, &rows[next..end]);
+        let most = lesser(end - next, severity.len());
+        first = first_within(sizes, first, most);
+        let claims = claim_sum(severity, &sizes[first..], dense, &rows[next..end]);
         let place = quiet + i;
-        rows[place] = month_value(chance, rows[place], sum, bias);
+        rows[place] = month_value(chance, rows[place], claims.sum, bias);
         i += 1;
     }
 }
@@ -110,12 +118,14 @@ pub fn all_rows_back(
     shape: Shape,
     top: usize,
     severity: &[u32],
+    sizes: &[usize],
+    dense: usize,
     chance: u32,
     bias: u64,
 )
     requires { ⌜ RowsIn shape (now rows) ⌝ }
     requires { ⌜ TopIn shape top ⌝ }
-    requires { ⌜ MonthTerms (now severity) chance bias ⌝ }
+    requires { ⌜ MonthTerms (now severity) (now sizes) dense chance bias ⌝ }
     ensures rewritten { λ _.
         ⌜ ((k : ℕ) → k < shape .rows → (s : ℕ) → s + gain ≤ top →
         values-in shape (top - gain) (now (rows .exit)) k s
@@ -134,7 +144,18 @@ pub fn all_rows_back(
     while j < last {
         let start = j * width;
         let next = start + width;
-        row_back(rows, start, next, top, live, severity, chance, bias);
+        row_back(
+            rows,
+            start,
+            next,
+            top,
+            live,
+            severity,
+            sizes,
+            dense,
+            chance,
+            bias,
+        );
         j += 1;
     }
     let start = last * width;
@@ -146,6 +167,8 @@ pub fn all_rows_back(
         top,
         live,
         &severity[..own],
+        sizes,
+        dense,
         chance,
         bias,
     );

@@ -1,13 +1,8 @@
 // One value of the month rule, in plain machine arithmetic.
 ghost use mathlib.Core.Path.{_≡_};
 ghost use Prim.Native.Nat.{_+_, _*_, _-_, _<_, _≤_};
-ghost use lib.ListN.{length};
 ghost use Rattle.model.specs.Scale.{S};
-ghost use Rattle.model.specs.Sums.{total};
-ghost use Rattle.model.specs.MonthRule.{claim-sum};
-ghost use Rattle.month_rule.specs.Rows.{from-top, Parts, round-by};
-use numbers::lesser;
-use numbers::wide;
+ghost use Rattle.month_rule.specs.Rows.{round-by};
 
 // The scale S, of which chances, weights and bounds are parts.
 pub const SCALE: u64 = model::SCALE as u64;
@@ -16,22 +11,6 @@ pub const SCALE: u64 = model::SCALE as u64;
 pub const ROUND_DOWN: u64 = 0;
 
 pub const ROUND_UP: u64 = SCALE - 1;
-
-// The sum of the weights F_x times the values that claims of size x lead to, which lie one after the other, the last at level 1.
-pub fn claim_sum(severity: &[u32], after: &[u32]) -> u64
-    requires { ⌜ Parts (now after) ⌝ }
-    requires { ⌜ total (now severity) ≤ S ⌝ }
-    ensures { λ r. ⌜ r ≡ claim-sum (now (severity .entry)) (from-top (length (now (after .entry))) (now (after .entry))) (length (now (after .entry)) + 1) ⌝ }
-{
-    let most = lesser(after.len(), severity.len());
-    let mut sum: u64 = 0;
-    let mut x = 0;
-    while x < most {
-        sum += wide(severity[x]) * wide(after[x]);
-        x += 1;
-    }
-    sum
-}
 
 // A quotient by the scale.
 pub fn divide(x: u64, bias: u64) -> u32

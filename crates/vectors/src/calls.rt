@@ -5,6 +5,7 @@ ghost use Rattle.vectors.specs.Rooms.{workspace-capacity};
 use crate::format;
 use crate::record::Record;
 use crate::rooms;
+use crate::sums;
 use crate::text;
 use engine::Answer;
 use model::Ask;
@@ -14,10 +15,12 @@ use model::Question;
 pub fn call(record: Record, row: &[u32]) {
     let kind = record.kind;
     let head = record.head;
+    let number = record.number;
     match kind {
         5 => count(head, row),
         6 => format::write(record, row),
         7 => format::read(record),
+        9 => sums::claims(head, number, row),
         _ => lend(record, row),
     }
 }

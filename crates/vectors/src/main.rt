@@ -4,6 +4,7 @@ mod calls;
 mod format;
 mod record;
 mod rooms;
+mod sums;
 mod text;
 
 ghost use mathlib.Core.Path.{_≡_};

@@ -6,7 +6,7 @@ use native.Mathlib.Omega.{arith}
 use borrow.Rule.Slice.PartMut.{midOf}
 use lib.ListN.{length, take, drop, replicate, length-take, length-replicate}
 use Rattle.model.specs.Scale.{S}
-use Rattle.month_rule.specs.Rows.{Parts}
+use Rattle.claims.specs.Values.{Parts}
 use Rattle.month_rule.proofs.ValueLaws.{down-by, up-by}
 use Rattle.month_rule.proofs.HalfLaws.{second-lent, first-half, second-half, parts-both, parts-replicate}
 use Rattle.ruin_rows.proofs.RuinLaws.{zeros-first, zeros-second}

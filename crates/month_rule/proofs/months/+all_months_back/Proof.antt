@@ -10,6 +10,7 @@ use lib.Seq.{length-take-le}
 use Rattle.model.specs.Scale.{S}
 use Rattle.model.specs.Levels.{gain, largest-level}
 use Rattle.model.proofs.LevelLaws.{level-next, level-from}
+use Rattle.claims.specs.Listing.{Listing}
 use Rattle.month_rule.specs.Rows.{round-by, MonthTerms, PlanTerms}
 use Rattle.month_rule.specs.Shapes.{RowsIn}
 use Rattle.month_rule.proofs.RowLaws.{parts-part}
@@ -22,16 +23,16 @@ use Rattle.month_rule.proofs.months.month_back.Reads as month-back-read
 use Rattle.month_rule.proofs.months.+all_months_back.{statement}
 use Rattle.month_rule.proofs.months.+all_months_back.Tie.{close}
 
-abbrev μ-all-months-back : Measures 3 all-months-back-kinds.ps ℕ
+abbrev μ-all-months-back : Measures 4 all-months-back-kinds.ps ℕ
 μ-all-months-back κs a = length (a .1 .1 .1 .0 .now)
 
-abbrev all-months-back-at : ℕ → In 3 all-months-back-kinds.ps
+abbrev all-months-back-at : ℕ → In 4 all-months-back-kinds.ps
 all-months-back-at t =
-    and 3 all-months-back-kinds.ps (is 3 all-months-back-kinds.ps μ-all-months-back t) all-months-back.Pre
+    and 4 all-months-back-kinds.ps (is 4 all-months-back-kinds.ps μ-all-months-back t) all-months-back.Pre
 
-abbrev all-months-back-below : ℕ → In 3 all-months-back-kinds.ps
+abbrev all-months-back-below : ℕ → In 4 all-months-back-kinds.ps
 all-months-back-below t =
-    and 3 all-months-back-kinds.ps (falls 3 all-months-back-kinds.ps _<_ μ-all-months-back t) all-months-back.Pre
+    and 4 all-months-back-kinds.ps (falls 4 all-months-back-kinds.ps _<_ μ-all-months-back t) all-months-back.Pre
 
 abbrev claims : ℕ → all-months-back-lts.Claims
 claims t = (all-months-back-below t, all-months-back.Post, month-back-reads.Asked, month-back-reads.Learnt)
@@ -50,10 +51,10 @@ abbrev After-lent : ℕ → Type 0
 After-lent t = all-months-back-lts.After-all-months-back-arg2 (claims t) (all-months-back-at t) all-months-back.Post
 
 abbrev After-read : ℕ → Type 0
-After-read t = all-months-back-lts.After-shared-slice-known3 (claims t) (all-months-back-at t) all-months-back.Post
+After-read t = all-months-back-lts.After-shared-slice-known4 (claims t) (all-months-back-at t) all-months-back.Post
 
 abbrev start : (t : ℕ) → Else1 t → Start t
-start t c = c .before .before .before .before
+start t c = c .before .before .before .before .before
 
 abbrev some-months : (t : ℕ) → After-lent t → Else1 t
 some-months t c = c .before .before
@@ -66,7 +67,10 @@ rows-known : (t : ℕ) (s : Start t) → RowsIn (s .args .shape) (s .args .rows 
 rows-known t s = s .pre .1 .0
 
 terms-known : (t : ℕ) (s : Start t) → PlanTerms (s .args .severity .now) (s .args .chances .now)
-terms-known t s = s .pre .1 .1 .1
+terms-known t s = s .pre .1 .1 .1 .0
+
+listing-known : (t : ℕ) (s : Start t) → Listing (s .args .severity .now) (s .args .sizes .now) (s .args .dense)
+listing-known t s = s .pre .1 .1 .1 .1
 
 bias-known : (t : ℕ) (s : Start t) → s .args .bias < S
 bias-known t s = s .pre .1 .1 .0 .1
@@ -94,7 +98,7 @@ fits t c =
 
 all-months-back-returns : (t : ℕ) → all-months-back-lts.Need-returns (claims t) (all-months-back-at t) all-months-back.Post
 all-months-back-returns t c =
-    let from = c .before .before .before .before in
+    let from = c .before .before .before .before .before in
     let a = from .args in
     (rw (no-chances (a .chances .now) (omega arith)) (taken-back-none (round-by (a .bias)) (a .severity .now) (a .shape) (a .opening) (a .rows .now)), rows-known t from .parts)
 
@@ -120,8 +124,8 @@ all-months-back-all-months-back-requires t c κs =
     let n = length (a .chances .now) in
     let fewer : length (take (n - 1) (drop 1 (a .chances .now))) ≡ n - 1 = length-take-le (n - 1) (drop 1 (a .chances .now)) (omega (arith, length-drop 1 (a .chances .now))) in
     let terms : PlanTerms (a .severity .now) (take (n - 1) (drop 1 (a .chances .now))) =
-    record { weights-fit = terms-known t from .weights-fit; chances-fit = parts-part (a .chances .now) 1 (n - 1) (terms-known t from .chances-fit) } in
-    (omega (arith, fewer, fits t else1 .some-month, from .pre .0), (rows-known t from, ((rw fewer (fits t else1 .levels), bias-known t from), terms)))
+    record { weights-fit = terms-known t from .weights-fit; sizes-fit = terms-known t from .sizes-fit; chances-fit = parts-part (a .chances .now) 1 (n - 1) (terms-known t from .chances-fit) } in
+    (omega (arith, fewer, fits t else1 .some-month, from .pre .0), (rows-known t from, ((rw fewer (fits t else1 .levels), bias-known t from), (terms, listing-known t from))))
 
 all-months-back-shared-slice-read-month-back : (t : ℕ) → all-months-back-lts.Need-shared-slice-read-month-back (claims t) (all-months-back-at t) all-months-back.Post
 all-months-back-shared-slice-read-month-back t c = omega (arith, fits t (some-months t (later t c .before)) .some-month)
@@ -133,9 +137,10 @@ all-months-back-month-back-requires t c κs =
     let else1 = some-months t (back .before) in
     let from = start t else1 in
     let a = from .args in
-    let terms : MonthTerms (a .severity .now) (getD (a .chances .now) 0 0) (a .bias) =
+    let terms : MonthTerms (a .severity .now) (a .sizes .now) (a .dense) (getD (a .chances .now) 0 0) (a .bias) =
     record {
       weights-fit = terms-known t from .weights-fit;
+      listing = listing-known t from;
       chance-fits = terms-known t from .chances-fit .each 0;
       bias-fits = bias-known t from;
     } in (

@@ -10,7 +10,7 @@ use Rattle.month_rule.proofs.months.month_back.Tie as tie
 
 -- the places after the calls, each from the next
 abbrev start : tie.After-forbid-rows-arg → tie.Start
-start c = c .before .before .before
+start c = c .before .before .before .before
 
 abbrev forbidden : tie.After-all-rows-back-arg → tie.After-forbid-rows
 forbidden c = c .before .before .before

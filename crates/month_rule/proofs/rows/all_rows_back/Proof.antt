@@ -7,6 +7,7 @@ use native.Mathlib.Nat.{le-trans}
 use native.Mathlib.Omega.{arith}
 use lib.ListN.{length, length-take}
 use Rattle.model.specs.Levels.{gain}
+use Rattle.claims.proofs.ListingLaws.{listing-take}
 use Rattle.month_rule.specs.Rows.{MonthTerms}
 use Rattle.month_rule.proofs.ManyRows.{row-fits}
 use Rattle.month_rule.proofs.OneMonth.{rows-before, rows-left, own-sizes-le, total-take-le, GoingBack, going-back-start, going-back-turn, going-back-end, going-back-done, going-back-beyond}
@@ -19,14 +20,14 @@ record Inv (old : List ℕ) (top : ℕ) (F : List ℕ) (P bias : ℕ) (tallied :
   back : GoingBack last width live (rows-before bias F P tallied (rows-left last width top old)) old rows j
 
 abbrev Inv-loop : tie.InvT-loop
-Inv-loop rows₀ top severity chance bias tallied width live last j₀ rows j = Inv rows₀ top severity chance bias tallied width live last rows j
+Inv-loop rows₀ top severity sizes dense chance bias tallied width live last j₀ rows j = Inv rows₀ top severity chance bias tallied width live last rows j
 
 abbrev μ-loop : tie.MeasureT-loop
-μ-loop rows₀ top severity chance bias tallied width live last j₀ rows j = last - j
+μ-loop rows₀ top severity sizes dense chance bias tallied width live last j₀ rows j = last - j
 
 add-live : tie.Need-add-live Inv-loop μ-loop
 add-live c =
-    let from = c .before .before in
+    let from = c .before .before .before in
     omega (arith, row-fits 0 (from .args .shape .rows) (from .args .shape .width) (from .pre .0 .some), from .pre .0 .size)
 
 sub-live : tie.Need-sub-live Inv-loop μ-loop
@@ -34,12 +35,12 @@ unfolding gain
 sub-live c = omega arith
 
 sub-last : tie.Need-sub-last Inv-loop μ-loop
-sub-last c = omega (arith, c .before .before .before .pre .0 .some)
+sub-last c = omega (arith, c .before .before .before .before .pre .0 .some)
 
 loop-holds : tie.Need-loop-holds Inv-loop μ-loop
 unfolding gain
 loop-holds c =
-    let from = c .before .before .before in
+    let from = c .before .before .before .before in
     record {
       within = omega arith;
       levels = omega arith;
@@ -48,7 +49,7 @@ loop-holds c =
 
 -- the places at the calls and the loop, each from the next
 abbrev start : tie.At-loop Inv-loop μ-loop → tie.Start Inv-loop μ-loop
-start c = c .before .before .before .before
+start c = c .before .before .before .before .before
 
 abbrev turn : tie.After-row-back-arg Inv-loop μ-loop → tie.In-loop Inv-loop μ-loop
 turn c = c .before
@@ -124,19 +125,21 @@ mul-start-2 c = omega (arith, last-fits c)
 own-sizes-requires : tie.Need-own-sizes-requires Inv-loop μ-loop
 own-sizes-requires c κs = tt
 
+-- the sizes of the last row are some of the table's
+own-fits : (c : tie.After-own-sizes Inv-loop μ-loop) → c .own-sizes .result ≤ length (start (ended c .before) .args .severity .now)
+own-fits c = let a = start (ended c .before) .args in omega (arith, c .own-sizes .ensures, own-sizes-le (a .shape .tallied) (length (a .severity .now)))
+
 slice-aggregate-row-back : tie.Need-slice-aggregate-row-back Inv-loop μ-loop
-slice-aggregate-row-back c =
-    let at-sizes = sized c in
-    let a = start (ended at-sizes .before) .args in
-    simp length-take (omega (arith, at-sizes .own-sizes .ensures, own-sizes-le (a .shape .tallied) (length (a .severity .now))))
+slice-aggregate-row-back c = simp length-take (omega (arith, own-fits (sized c)))
 
 row-back-requires-2 : tie.Need-row-back-requires-2 Inv-loop μ-loop
 row-back-requires-2 c κs =
     let at-sizes = sized c in
     let inv = ended at-sizes .before .loop .inv in
     let from = start (ended at-sizes .before) in
-    let own : MonthTerms _ (from .args .chance) (from .args .bias) =
+    let own : MonthTerms _ (from .args .sizes .now) (from .args .dense) (from .args .chance) (from .args .bias) =
     record {
+      listing = listing-take (from .args .severity .now) (from .args .sizes .now) (from .args .dense) (at-sizes .own-sizes .result) (own-fits at-sizes) (from .pre .1 .1 .listing);
       weights-fit = le-trans (total-take-le (at-sizes .own-sizes .result) (from .args .severity .now)) (from .pre .1 .1 .weights-fit);
       chance-fits = from .pre .1 .1 .chance-fits;
       bias-fits = from .pre .1 .1 .bias-fits;
