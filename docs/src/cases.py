@@ -3,7 +3,8 @@ import itertools
 import random
 from collections import namedtuple
 
-from plans import EXAMPLE, EXAMPLE_BYTES, ONE_SIZE, WORKED, changed, flat, flipped, geometric, long_plans, questions, some_plan, split
+from plans import EXAMPLE, EXAMPLE_BYTES, ONE_SIZE, WORKED, changed, flat, flipped, gapped, geometric, long_plans, questions, some_chance
+from plans import some_plan, split, timed_plans
 from records import FULL_NUMBER, Calls
 from rules import CLAIMS, HEAD_BYTES, LARGEST, LEVEL, MONTHS, NUMBER_BITS, OPENING, SIZES, SURVIVE, WIDTHS, Head, Question, S
 from rules import all_months, bit_length, byte_length, plan_checks, refusal, row_length, workspace_needed, write_bytes
@@ -145,6 +146,18 @@ def every_month():
             yield Ask(head, row, fails(t))
 
 
+def claim_plans(rng):
+    """Every choice of empty sizes among 1 to 4, over taking what none takes; long tables with none, some and nearly all empty, a gap, or ten filled."""
+    for m in range(1, 5):
+        for empty in itertools.product((False, True), repeat=m):
+            shares = iter(split(rng, m - sum(empty), 0) if sum(empty) < m else [])
+            weights = [0 if none else next(shares) for none in empty]
+            yield Head(m + 1, 0, m), [some_chance(rng) for _ in range(m + 1)] + weights + [S - sum(weights)]
+    _, timed = timed_plans()["ten-filled"]
+    for table in (*(split(rng, SIZES, empty) for empty in (0, 2, 7)), *(gapped(rng, SIZES) for _ in range(3)), timed[MONTHS : MONTHS + SIZES]):
+        yield LARGEST, [some_chance(rng) for _ in range(MONTHS)] + table + [0]
+
+
 # ---- Plan bytes
 
 
@@ -229,17 +242,31 @@ def add_random_plans(calls, rng, own):
         add_random_asks(calls, own, head, row, (fails(t) for t in (1, 2, n // 2, n - 1, n) if t in all_months(head)))
 
 
+def add_claim_sums(calls, rng):
+    """Ranges from none to all values, and one past them."""
+    for head, row in claim_plans(rng):
+        n = head.months
+        for count in sorted({*range(6), n // 2, n - 1, n, n + 1, FULL}):
+            calls.claims(head, row, count)
+    head, row = BRIEF
+    for fault in ROW_FAULTS.values():
+        calls.claims(head, fault(row), 2)
+    calls.claims(head._replace(months=MONTHS + 1), row, 2)
+    calls.claims(head, row[:-1], 2)
+
+
 def all_calls():
     calls = Calls()
     add_edges(calls)
     add_lent_memory(calls)
     add_random_plans(calls, random.Random(1), random.Random(5))
+    add_claim_sums(calls, random.Random(7))
     return calls
 
 
-def repeated_calls(question, times):
-    """One question on the largest plan, over and over, to time it."""
-    head, row = next(long_plans(random.Random(1)))
+def repeated_calls(question, times, plan):
+    """One question on a plan, over and over, to time it."""
+    head, row = plan
     calls = Calls()
     calls.use(row)
     for _ in range(times):

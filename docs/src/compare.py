@@ -12,7 +12,7 @@ import sys
 import time
 from collections import Counter
 
-from plans import changed, flipped, geometric, some_chance, split
+from plans import changed, flipped, gapped, geometric, some_chance, split
 from rules import CLAIMS, HEAD_BITS, HEAD_BYTES, LARGEST, MONTHS, OPENING, SIZES, Head, S, bit_length, byte_length, write_bytes
 
 BEYOND = -(-byte_length(LARGEST) // 100) * 100  # a round number of bytes, a little past the longest plan
@@ -56,6 +56,7 @@ def some_weights(rng, parts):
     return rng.choice([
         *(split(rng, parts, empty) for empty in (0, 2, 7)),
         *(filled(rng, parts, places) for places in (1, 2, 10)),
+        gapped(rng, parts),
         geometric(parts - 1),
         ones,
     ])

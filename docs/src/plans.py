@@ -1,4 +1,6 @@
-"""Plans to try: document 01's own, plain ones, and random ones from small to the largest. A plan is a pair of a head and a row."""
+"""Plans to try: document 01's own, plain ones, random ones from small to the largest, and three to time. A plan is a pair of a head and a row."""
+import random
+
 from rules import CLAIMS, LARGEST, MONTHS, OPENING, SIZES, SURVIVE, Head, Question, S, largest_level
 
 # ---- Document 01's plans
@@ -92,6 +94,13 @@ def split(rng, parts, empty):
     return shares
 
 
+def gapped(rng, parts):
+    """parts numbers that add to S, of which those in one gap are 0: "empty between small repairs and full replacements"."""
+    shares = split(rng, rng.randint(1, parts), 0)
+    small = rng.randint(0, len(shares))
+    return shares[:small] + [0] * (parts - len(shares)) + shares[small:]
+
+
 def some_plan(rng, n, u, m):
     """An accepted head and row."""
     head, chances = Head(n, u, m), [some_chance(rng) for _ in range(n)]
@@ -118,3 +127,21 @@ def long_plans(rng):
     yield LARGEST._replace(opening=0), [rng.randrange(S // 25) for _ in range(MONTHS)] + geometric(SIZES)
     for n, u, m in ((MONTHS, OPENING, 1), (0, OPENING, SIZES), (MONTHS - 1, 37, 100), (17, 150, 166)):
         yield some_plan(rng, n, u, m)
+
+
+# ---- Plans to time
+
+TEN_SIZES = 1, 2, 3, 5, 8, 12, 150, 200, 260, SIZES  # small repairs and full replacements
+
+
+def timed_plans():
+    """Three of the largest head, by name, always the same."""
+    rng = random.Random(1)
+    _, row = next(long_plans(rng))
+    chances, table = row[:MONTHS], row[MONTHS:]
+    shares = dict(zip(TEN_SIZES, split(rng, len(TEN_SIZES), 0)))
+    return {
+        "none-empty": (LARGEST, row),
+        "ten-filled": (LARGEST, chances + [shares.get(x, 0) for x in range(1, SIZES + 1)] + [0]),
+        "no-chance": (LARGEST, [0] * MONTHS + table),
+    }

@@ -3,19 +3,20 @@
 The input of `vectors` is a list of records: eight words of 8 bytes, most significant byte first (kind, months, opening, sizes, number, room,
 fill, length), then what the kind asks. `row` sets the row that later records use: length numbers of 4 bytes. The four questions ask with that
 row, `number` as k or L and a workspace of `room` numbers that each hold `fill`; `fails` asks in the same way, `number` as the month. `count` asks
-for the count row. `write` lends `room` bytes and `read` a row of `room` numbers, each holding `fill`; `read` is followed by the plan's `length`
+for the count row. `claims` takes the claim sum over the row's weights, with the first `number` of its chances as the values that claims of size 1, 2, …
+lead to. `write` lends `room` bytes and `read` a row of `room` numbers, each holding `fill`; `read` is followed by the plan's `length`
 bytes.
-Its output has a line for each record but `row`: the refusal's number, the numbers answered, and the lent memory after the call, which is the
-bytes of `write` in hexadecimal and otherwise a checksum.
+Its output has a line for each record but `row`: the refusal's number, the numbers answered, and the lent memory after the call where there is any, which
+is the bytes of `write` in hexadecimal and otherwise a checksum.
 
 `reports` and `tables` read plans one after another: two bytes with a plan's length, most significant first, and its bytes.
 """
 import itertools
 
-from rules import HEAD_BYTES, LARGEST, MOST_ASKED, PLACES, Head, ask_checks, bounds, count_row, down, failure_bounds, failure_checks, plan_checks
-from rules import plan_of, read_bytes, read_checks, refusal, row_length, up, workspace_needed, write_bytes, write_checks
+from rules import HEAD_BYTES, LARGEST, MOST_ASKED, PLACES, Head, ask_checks, bounds, claim_sum, count_row, down, failure_bounds, failure_checks
+from rules import plan_checks, plan_of, read_bytes, read_checks, refusal, row_length, up, workspace_needed, write_bytes, write_checks
 
-KINDS = ["row", "survive", "both", "high", "low", "count", "write", "read", "fails"]
+KINDS = ["row", "survive", "both", "high", "low", "count", "write", "read", "fails", "claims"]
 FULL_NUMBER = 2**32 - 1  # the largest number that a row or a workspace can hold
 
 # The room that the program lends, as in crates/vectors/src/rooms.rt. It passes over a record that needs more.
@@ -85,6 +86,15 @@ class Calls:
         plan = None if number else plan_of(head, row)
         rows = [[0] * PLACES, [0] * PLACES] if number else [count_row(plan, down), count_row(plan, up)]
         self.answers(f"count row of {tuple(head)}, row of {len(row)}", number, *itertools.chain(*zip(*rows)))
+
+    def claims(self, head, row, count):
+        self.use(row)
+        self.record("claims", head, count)
+        number = refusal(plan_checks(head, row))
+        values = [] if number else plan_of(head, row).chances[:count]
+        after = [0, *reversed(values)]  # the row of levels 0 to as many as there are values: a claim of size 1 leads to the highest
+        total, products = (0, 0) if number else claim_sum(plan_of(head, row).weights, after, len(values))
+        self.answers(f"claims over the first {count} chances of {tuple(head)}, row of {len(row)}", number, total, products)
 
     def write(self, head, row, room, fill=255):
         self.use(row)

@@ -8,7 +8,9 @@ Written from these documents and their sources alone, not from the engine or its
   reference.py plan N U M ROW..   the plan bytes of a head and a row (chances, weights, over) on standard output
   reference.py vectors DIR        DIR/stdin and DIR/stdout of the test program over the calls
   reference.py cases              one line for each line of that stdout: what was called
-  reference.py repeat WORD K N    N times one question, or failing in month K, on the largest plan, as that program's input, to time it
+  reference.py repeat WORD K N    N times one question, or failing in month K, on the largest plan, as that program's input, to time it; a last
+                                  word may name another of the plans below
+  reference.py plans DIR          three plans as large as can be, to time: DIR/none-empty (that plan), DIR/ten-filled, DIR/no-chance
   reference.py example DIR        DIR/stdin and DIR/stdout of the reserve report: document 01's example
   reference.py reports DIR        DIR/stdin and DIR/stdout of many reserve reports, the largest included: takes minutes
 """
@@ -17,7 +19,7 @@ import sys
 from pathlib import Path
 
 from cases import all_calls, repeated_calls, reported_bytes
-from plans import EXAMPLE_BYTES, EXAMPLE_TEXT
+from plans import EXAMPLE_BYTES, EXAMPLE_TEXT, timed_plans
 from records import plan_list
 from rules import Head, Question, refusal, report, write_bytes, write_checks
 from selftest import selftest
@@ -44,8 +46,13 @@ def print_cases():
         print(f"{label}: {line}")
 
 
-def print_repeat(word, number, times):
-    calls = repeated_calls(Question(word, int(number)), int(times))
+def write_plans(folder):
+    for name, plan in timed_plans().items():
+        Path(folder, name).write_bytes(write_bytes(*plan))
+
+
+def print_repeat(word, number, times, plan="none-empty"):
+    calls = repeated_calls(Question(word, int(number)), int(times), timed_plans()[plan])
     sys.stdout.buffer.write(b"".join(calls.records))
 
 
@@ -68,8 +75,10 @@ def main(words):
             write_vectors(folder)
         case ["cases"]:
             print_cases()
-        case ["repeat", word, number, times]:
-            print_repeat(word, number, times)
+        case ["repeat", word, number, times, *plan] if len(plan) <= 1:
+            print_repeat(word, number, times, *plan)
+        case ["plans", folder]:
+            write_plans(folder)
         case ["example", folder]:
             write_test(folder, EXAMPLE_BYTES, EXAMPLE_TEXT)
         case ["reports", folder]:

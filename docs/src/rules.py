@@ -6,7 +6,6 @@ import math
 from collections import namedtuple
 from fractions import Fraction
 from itertools import accumulate, pairwise
-from operator import mul
 
 S = 2**30
 MONTHS, OPENING, SIZES, CLAIMS, LEVEL = 120, 200, 320, 24, 320  # the limits of n, u, m, of k in both, of L in high and low
@@ -161,13 +160,17 @@ def allowed(question, level):
 
 
 def claim_sum(weights, after, s):
-    """The sum over x = 1 .. min(s, m) of F_x × after(s + 1 − x)."""
-    return sum(map(mul, weights, after[s:0:-1]))
+    """The sum of F_x × after(s + 1 − x) over the sizes x = min(s, m) .. 1 that are not empty, and "how many products it added"."""
+    largest = min(s, len(weights))
+    pairs = zip(reversed(weights[:largest]), after[s + 1 - largest :])  # from the largest size in range down
+    products = [weight * value for weight, value in pairs if weight != 0]
+    return sum(products), len(products)
 
 
 def month(divide, weights, chance, quiet, claimed, s):
     """The value at level s before a month, from the rows read without and with a claim."""
-    return divide((S - chance) * quiet[s + 1] + chance * divide(claim_sum(weights, claimed, s)))
+    claims, _ = claim_sum(weights, claimed, s)
+    return divide((S - chance) * quiet[s + 1] + chance * divide(claims))
 
 
 def last_rows(plan, question):

@@ -1,13 +1,14 @@
 """The rules held against the exact chances, the funds worked by hand and the paper's report."""
+import itertools
 import math
 import random
 from fractions import Fraction
 
 from exact import carried_counts, carried_failures, carried_weight, claim_chance, count_weight, encloses, failure_weight, first_claim_both
 from exact import first_claim_survival, keeps_gap, outcomes, question_weight
-from plans import EXAMPLE, EXAMPLE_BYTES, EXAMPLE_TEXT, WORKED, flat, lasting_plan, questions, some_plan
-from rules import CLAIMS, LARGEST, MONTHS, MOST_ASKED, PLACES, S, SURVIVE, Question, all_months, ask_checks, bounds, byte_length, count_row, down
-from rules import failure_bounds, failure_checks, failure_rule, largest_level, month_rule, plan_of
+from plans import EXAMPLE, EXAMPLE_BYTES, EXAMPLE_TEXT, WORKED, flat, gapped, lasting_plan, questions, some_chance, some_plan, split, timed_plans
+from rules import CLAIMS, LARGEST, MONTHS, MOST_ASKED, PLACES, S, SIZES, SURVIVE, Question, all_months, ask_checks, bounds, byte_length
+from rules import claim_sum, count_row, down, failure_bounds, failure_checks, failure_rule, largest_level, month_rule, plan_of
 from rules import read_bytes, refusal, report, totals, unrounded, up, workspace_needed, write_bytes
 
 
@@ -26,6 +27,31 @@ class Tally:
         for failure in self.failed:
             print("FAILED", failure)
         print("failed" if self.failed else "ok")
+
+
+def rising_claim_sum(weights, after, s):
+    """Document 01's: "the sum over x from 1 to the lesser of s and m of F_x × V_t(s + 1 − x)"."""
+    return sum(weights[x - 1] * after[s + 1 - x] for x in range(1, min(s, len(weights)) + 1))
+
+
+def check_claim_sums(tally, rng, weights):
+    """Every range of sizes, from none to past the table's end, on a row of random values. A product may be 0 though its size is not empty."""
+    after = [some_chance(rng) for _ in range(len(weights) + 3)]
+    for s in range(len(after)):
+        total, products = claim_sum(weights, after, s)
+        tally.check("claim sum is document 01's", total == rising_claim_sum(weights, after, s), (weights, after, s))
+        filled = sum(weight > 0 for weight in weights[:s])
+        tally.check("claim sum: products are the sizes with a weight above 0", products == filled, (weights, after, s))
+
+
+def claim_tables(rng):
+    """Every choice of empty sizes among 1 to 6, and long tables with none, some and nearly all empty, a gap, or ten filled."""
+    for m in range(1, 7):
+        for empty in itertools.product((False, True), repeat=m):
+            yield [0 if none else rng.randint(1, S) for none in empty]
+    yield from (split(rng, SIZES, empty) for empty in (0, 2, 7))
+    yield from (gapped(rng, SIZES) for _ in range(5))
+    yield plan_of(*timed_plans()["ten-filled"]).weights
 
 
 def check_bounds(tally, name, plan, months, weight, pair, about):
@@ -127,12 +153,15 @@ def check_paper(tally):
 
 def selftest():
     """Whether a check failed."""
-    tally, rng = Tally(), random.Random(2)
+    tally, rng, own = Tally(), random.Random(2), random.Random(6)  # the claim sums have random numbers of their own
     check_paper(tally)
+    for weights in claim_tables(own):
+        check_claim_sums(tally, own, weights)
     for _ in range(300):
         head, row = some_plan(rng, rng.randrange(5), rng.randrange(6), rng.randrange(1, 5))
         tally.check("accepted", refusal(ask_checks(head, row, SURVIVE, math.inf)) == 0, (head, row))
         tally.check("bytes there and back", read_bytes(write_bytes(head, row))[:2] == (head, row), (head, row))
+        check_claim_sums(tally, own, plan_of(head, row).weights)
         check_plan(tally, plan_of(head, row))
     for u, m in ((0, 2), (3, 5), (7, 1)):
         check_long_plan(tally, plan_of(*lasting_plan(rng, MONTHS, u, m)))
