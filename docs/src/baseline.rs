@@ -2,8 +2,9 @@
 //!
 //!   rustc -O docs/src/baseline.rs -o OUT
 //!
-//! Written from these documents alone, not from the engine or its definitions. It has the rows and the order of work of document 01: two rows of
-//! u + n + 1 numbers for an answer, k + 1 times that for both k, each replaced in place month by month, from the highest level down.
+//! Written from these documents alone, not from the engine or its definitions. It has the rows and the order of work of these documents: two rows
+//! of u + n + 1 numbers for an answer, k + 1 times that for both k, each replaced in place month by month, from the highest level down, and the
+//! claim sum from the largest size down.
 use std::fmt::{Display, Write as _};
 use std::io::{self, Read, Write as _};
 
@@ -21,6 +22,20 @@ struct Plan {
     opening: usize,
     chances: Vec<u32>,
     weights: Vec<u32>,
+    /// The weights of the sizes below the first empty one, the largest size first.
+    run: Vec<u32>,
+    /// The sizes above it that are not empty, and their weights, the largest size first.
+    listed: Vec<(usize, u32)>,
+}
+
+impl Plan {
+    fn new(opening: usize, chances: &[u32], weights: &[u32]) -> Plan {
+        let below = weights.iter().take_while(|&&weight| weight > 0).count();
+        let run = weights[..below].iter().rev().copied().collect();
+        let above = (below + 1..=weights.len()).rev().map(|x| (x, weights[x - 1]));
+        let listed = above.filter(|&(_, weight)| weight > 0).collect();
+        Plan { opening, chances: chances.to_vec(), weights: weights.to_vec(), run, listed }
+    }
 }
 
 #[derive(Clone, Copy)]
@@ -86,22 +101,32 @@ fn read(bytes: &[u8]) -> Result<Plan, u32> {
         return Err(9);
     }
     let row: Vec<u32> = row.iter().map(|&x| x as u32).collect();
-    Ok(Plan { opening: u, chances: row[..n].to_vec(), weights: row[n..n + m].to_vec() })
+    Ok(Plan::new(u, &row[..n], &row[n..n + m]))
 }
 
 // ---- The month rule
 
-/// The sum over x = 1 .. min(s, m) of F_x × row(s + 1 − x).
-fn claim_sum(weights: &[u32], row: &[u32], s: usize) -> u64 {
-    let mut sum = 0;
-    for (&weight, &value) in weights.iter().zip(row[1..=s].iter().rev()) {
-        sum += u64::from(weight) * u64::from(value);
+/// The claim sums at the falling levels s of a month: of F_x × row(s + 1 − x) over the sizes x = min(s, m) .. 1 that are not empty.
+fn claim_sums(plan: &Plan) -> impl FnMut(&[u32], usize) -> u64 + '_ {
+    let mut listed = &plan.listed[..];
+    move |row, s| {
+        while listed.first().is_some_and(|&(x, _)| x > s) {
+            listed = &listed[1..]; // for good, since the levels fall
+        }
+        let mut sum = 0;
+        for &(x, weight) in listed {
+            sum += u64::from(weight) * u64::from(row[s + 1 - x]);
+        }
+        let run = plan.run.len().min(s);
+        for (&weight, &value) in plan.run[plan.run.len() - run..].iter().zip(&row[s + 1 - run..=s]) {
+            sum += u64::from(weight) * u64::from(value);
+        }
+        sum
     }
-    sum
 }
 
 /// One month over the levels from `top` down to 0, in place. `claims` is the claim sum at a level, from the row as it is then.
-fn month(row: &mut [u32], top: usize, chance: u32, add: u64, claims: impl Fn(&[u32], usize) -> u64) {
+fn month(row: &mut [u32], top: usize, chance: u32, add: u64, mut claims: impl FnMut(&[u32], usize) -> u64) {
     let chance = u64::from(chance);
     let mut above = u64::from(row[top + 1]);
     for s in (0..=top).rev() {
@@ -116,7 +141,6 @@ fn month(row: &mut [u32], top: usize, chance: u32, add: u64, claims: impl Fn(&[u
 fn month_of(plan: &Plan, question: Question, t: usize, add: u64, rows: &mut [u32]) {
     let span = plan.opening + plan.chances.len() + 1;
     let (chance, top) = (plan.chances[t - 1], plan.opening + t - 1);
-    let claims = |row: &[u32], s| claim_sum(&plan.weights, row, s);
     match question {
         Question::Survive => {}
         Question::High(level) => rows[(level + 1).min(span)..].fill(0),
@@ -124,12 +148,13 @@ fn month_of(plan: &Plan, question: Question, t: usize, add: u64, rows: &mut [u32
         Question::Both(k) => {
             for left in (1..=k).rev() {
                 let (fewer, row) = rows[(left - 1) * span..].split_at_mut(span);
+                let mut claims = claim_sums(plan);
                 month(row, top, chance, add, |_, s| claims(fewer, s));
             }
             return month(&mut rows[..span], top, chance, add, |_, _| 0);
         }
     }
-    month(rows, top, chance, add, claims);
+    month(rows, top, chance, add, claim_sums(plan));
 }
 
 /// The value at the opening, from the rows at the end of this many months: one for each number of claims left, and none left comes first.

@@ -14,7 +14,7 @@ use Rattle.model.specs.Limits.{max-sizes}
 use Rattle.model.specs.Plan.{nth}
 use Rattle.model.specs.FilledSizes.{filled-sizes}
 use Rattle.model.proofs.FilledLaws.{filled-from, filled-more, filled-same, filled-inside, filled-agree}
-use Rattle.claims.specs.Listing.{within, gapless, Gapless, Listing}
+use Rattle.claims.specs.Listing.{within, gapless, NoGap, Listing}
 
 -- a list whose first number lies within a bound, and one whose first does not
 pub within-keep : (most x : ℕ) (xs : List ℕ) → x ≤ most → within most (x ∷ xs) ≡ x ∷ xs
@@ -101,7 +101,7 @@ pub gapless-end : (F : List ℕ) (x : ℕ) → length F ≤ x → gapless (drop 
 unfolding gapless
 gapless-end F x l = rw (drop-of-length-le F {i = x} l)
 
-pub gapless-filled : (F : List ℕ) → Gapless F (gapless F)
+pub gapless-filled : (F : List ℕ) → NoGap F (gapless F)
 unfolding gapless
 gapless-filled F = record { filled = λ i l m. go F i l }
   where

@@ -16,7 +16,7 @@ use Rattle.model.proofs.SumLaws.{sum-ext, sum-last}
 use Rattle.model.proofs.Month.{claim-sum-bound}
 use Rattle.model.proofs.FilledLaws.{filled-total, filled-sum-is, filled-inside, filled-count-is, filled-all, filled-rest}
 use Rattle.claims.specs.Values.{from-top, Parts}
-use Rattle.claims.specs.Listing.{product, SizesIn, Gapless}
+use Rattle.claims.specs.Listing.{product, SizesIn, NoGap}
 
 -- nothing passes S × S
 pub claim-sum-fits : (F : List ℕ) (Y : Row) → total F ≤ S → ((s : ℕ) → Y s ≤ S) → (s : ℕ) → claim-sum F Y s ≤ S * S
@@ -81,7 +81,7 @@ pub record Parted (F after sizes : List ℕ) (low apart : ℕ) : Type 0 where
   pub sums : total (map (product F after) (take apart sizes)) + sum low (product F after) ≡ sum (min (length after) (length F)) (product F after)
 
 pub parted :
-    (F after sizes : List ℕ) (dense low apart : ℕ) → sizes ≡ filled-sizes F (min (length after) (length F)) → Gapless F dense →
+    (F after sizes : List ℕ) (dense low apart : ℕ) → sizes ≡ filled-sizes F (min (length after) (length F)) → NoGap F dense →
     low ≡ min (min (length after) (length F)) dense → apart ≡ length sizes - low → Parted F after sizes low apart
 unfolding nth
 parted F after sizes dense low apart es h el ea =

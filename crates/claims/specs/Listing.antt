@@ -27,11 +27,11 @@ pub record SizesIn (most : ℕ) (sizes : List ℕ) : Type 0 where
   pub each : (k : ℕ) → k < length sizes → (0 < getD sizes k 0) × (getD sizes k 0 ≤ most)
 
 -- no size of the table from 1 to `dense` is empty
-pub record Gapless (severity : List ℕ) (dense : ℕ) : Type 0 where
+pub record NoGap (severity : List ℕ) (dense : ℕ) : Type 0 where
   pub filled : (i : ℕ) → i < dense → i < length severity → 0 < getD severity i 0
 
 -- The filled sizes of a table: for each range they are what is left of the list without the sizes beyond that range. Of the sizes 1 to `dense` none is
 -- empty.
 pub record Listing (severity sizes : List ℕ) (dense : ℕ) : Type 0 where
   pub ranges : (n : ℕ) → n ≤ length severity → within n sizes ≡ filled-sizes severity n
-  pub no-gap : Gapless severity dense
+  pub no-gap : NoGap severity dense

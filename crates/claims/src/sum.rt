@@ -6,7 +6,7 @@ ghost use lib.ListN.{length};
 ghost use Rattle.model.specs.Scale.{S};
 ghost use Rattle.model.specs.Sums.{sum, total};
 ghost use Rattle.model.specs.FilledSizes.{filled-sizes, filled-sum, filled-count};
-ghost use Rattle.claims.specs.Listing.{product, SizesIn, Gapless};
+ghost use Rattle.claims.specs.Listing.{product, SizesIn, NoGap};
 ghost use Rattle.claims.specs.Values.{from-top, Parts};
 use numbers::difference;
 use numbers::lesser;
@@ -59,7 +59,7 @@ pub fn claim_sum(severity: &[u32], sizes: &[usize], dense: usize, after: &[u32])
     requires { ⌜ Parts (now after) ⌝ }
     requires { ⌜ total (now severity) ≤ S ⌝ }
     requires { ⌜ now sizes ≡ filled-sizes (now severity) (min (length (now after)) (length (now severity))) ⌝ }
-    requires { ⌜ Gapless (now severity) dense ⌝ }
+    requires { ⌜ NoGap (now severity) dense ⌝ }
     ensures sum { λ r.
         ⌜ r .sum ≡ filled-sum (now (severity .entry)) (from-top (length (now (after .entry))) (now (after .entry))) (length (now (after .entry)) + 1) ⌝ }
     ensures products { λ r. ⌜ r .products ≡ filled-count (now (severity .entry)) (length (now (after .entry)) + 1) ⌝ }
