@@ -1,20 +1,22 @@
 -- Laws of the filled sizes as a question lists them: the loops that list them, and the part of a list that lies within a range.
 use mathlib.Core.Path.{_≡_, refl, sym, _∙_, ap}
 use mathlib.Core.Bool.{Bool, true, false, cond}
-use mathlib.Core.List.{List, [], _∷_, _++_, append-assoc, append-nil}
-use Prim.Native.Nat.{ℕ, zero, suc, _+_, _-_, _≤_, _<_}
+use mathlib.Core.List.{List, [], _∷_, _++_, append-assoc}
+use mathlib.Core.Logic.{⊎-elim}
+use Prim.Native.Nat.{ℕ, zero, suc, _+_, _-_, _≤_, zero-le, _<_, min}
 use native.Mathlib.Nat.{le-refl, le-trans, le-of-suc-le-suc, sub-add-cancel}
 use native.Mathlib.Numerals.{add-one}
 use native.Mathlib.Omega.{arith}
 use lib.Dec.{leb}
 use borrow.Author.Tests.{leb-false, le-leb, lt-leb, lt-ltb}
-use lib.ListN.{length, getD, take, drop, set, length-set, length-take, length-drop, drop-of-length-le}
+use lib.ListN.{length, getD, take, drop, set, length-append, length-set, length-take, length-drop, drop-of-length-le}
 use lib.Seq.{take-all, drop-cons, take-suc-set, getD-take}
 use Rattle.model.specs.Limits.{max-sizes}
 use Rattle.model.specs.Plan.{nth}
 use Rattle.model.specs.FilledSizes.{filled-sizes}
+use Rattle.model.proofs.SumLaws.{below-or-not}
 use Rattle.model.proofs.FilledLaws.{filled-from, filled-more, filled-same, filled-inside, filled-agree}
-use Rattle.claims.specs.Listing.{within, gapless, NoGap, Listing}
+use Rattle.claims.specs.Listing.{within, gapless, NoGap, ListsRange, Listing}
 
 -- a list whose first number lies within a bound, and one whose first does not
 pub within-keep : (most x : ℕ) (xs : List ℕ) → x ≤ most → within most (x ∷ xs) ≡ x ∷ xs
@@ -25,20 +27,20 @@ pub within-pass : (most x : ℕ) (xs : List ℕ) → most < x → within most (x
 unfolding within
 within-pass most x xs l = rw (lt-leb x most l)
 
--- The filled sizes within a narrower range are those of that range.
-pub within-filled : (F : List ℕ) (n m : ℕ) → n ≤ m → within n (filled-sizes F m) ≡ filled-sizes F n
+within-all : (most : ℕ) (xs : List ℕ) → ((k : ℕ) → k < length xs → getD xs k 0 ≤ most) → within most xs ≡ xs
 unfolding within
+within-all most [] h = refl
+within-all most (x ∷ xs) h = within-keep most x xs (h 0 (omega arith))
+
+-- The filled sizes within a narrower range are those of that range.
+within-filled : (F : List ℕ) (n m : ℕ) → n ≤ m → within n (filled-sizes F m) ≡ filled-sizes F n
 within-filled F n m l = rw (sub-add-cancel l) at (filled-from F Narrowed n first more same (m - n)) .1
   where
     Narrowed : ℕ → List ℕ → Type 0
     Narrowed k xs = (n ≤ k) × (within n xs ≡ filled-sizes F n)
 
-    all : (xs : List ℕ) → ((k : ℕ) → k < length xs → (0 < getD xs k 0) × (getD xs k 0 ≤ n)) → within n xs ≡ xs
-    all [] h = refl
-    all (x ∷ xs) h = within-keep n x xs (h 0 (omega arith) .1)
-
     first : Narrowed n (filled-sizes F n)
-    first = (le-refl n, all (filled-sizes F n) (filled-inside F n))
+    first = (le-refl n, within-all n (filled-sizes F n) (λ k i. filled-inside F n k i .1))
 
     more : (k : ℕ) (xs : List ℕ) → 0 < nth F (suc k) → Narrowed k xs → Narrowed (suc k) (suc k ∷ xs)
     more k xs w h = (omega (arith, h .0), within-pass n (suc k) xs (omega (arith, h .0)) ∙ h .1)
@@ -84,6 +86,10 @@ searching-none sizes from most k l h =
     let none : drop k sizes ≡ [] = drop-of-length-le sizes {i = k} l in
     none ∙ ap (within most) (sym none) ∙ h .passed
 
+empty : (xs : List ℕ) → length xs ≡ 0 → xs ≡ []
+empty [] e = refl
+empty (x ∷ xs) e = absurd (omega (arith, e))
+
 positive : (w : ℕ) → ¬ (w ≡ 0) → 0 < w
 positive zero n = absurd (n refl)
 positive (suc w) n = omega arith
@@ -100,6 +106,12 @@ gapless-stop F x l e = rw (drop-cons F x 0 l, e)
 pub gapless-end : (F : List ℕ) (x : ℕ) → length F ≤ x → gapless (drop x F) ≡ 0
 unfolding gapless
 gapless-end F x l = rw (drop-of-length-le F {i = x} l)
+
+pub gapless-le : (F : List ℕ) → gapless F ≤ length F
+unfolding gapless
+gapless-le [] = le-refl 0
+gapless-le (zero ∷ F) = zero-le
+gapless-le (suc f ∷ F) = rw (lt-ltb 0 (suc f) (omega arith)) (omega (arith, gapless-le F))
 
 pub gapless-filled : (F : List ℕ) → NoGap F (gapless F)
 unfolding gapless
@@ -145,50 +157,94 @@ listed-empty F sizes next count x more l e en em h =
       whole = rw (en, em, ← same) (h .whole);
     }
 
-pub listed-end : (F sizes : List ℕ) (count x : ℕ) → x ≤ 0 → Listed F sizes count x → take count sizes ≡ filled-sizes F (length F)
-unfolding filled-sizes
-listed-end F sizes count zero l h = sym (append-nil (take count sizes)) ∙ h .whole
-listed-end F sizes count (suc x) l h = absurd (omega arith)
+pub listed-end :
+    (F sizes : List ℕ) (count x dense : ℕ) → x ≤ dense → dense ≤ x → Listed F sizes count x → take count sizes ++ filled-sizes F dense ≡ filled-sizes F (length F)
+listed-end F sizes count x dense l m h = let here : x ≡ dense = omega arith in rw here at (h .whole)
+
+-- numbers that all lie within a bound, after others
+within-append : (most : ℕ) (xs ys : List ℕ) → within most ys ≡ ys → within most (xs ++ ys) ≡ within most xs ++ ys
+unfolding within
+within-append most [] ys h = h
+within-append most (x ∷ xs) ys h = go (leb x most) (within-append most xs ys h)
+  where
+    go :
+        (b : Bool) → within most (xs ++ ys) ≡ within most xs ++ ys →
+        cond b (x ∷ (xs ++ ys)) (within most (xs ++ ys)) ≡ cond b (x ∷ xs) (within most xs) ++ ys
+    go true e = refl
+    go false e = e
 
 -- what is listed serves every range, and every shorter table
 pub listing-is :
-    (F sizes : List ℕ) (dense : ℕ) → sizes ≡ filled-sizes F (length F) → dense ≡ gapless F → Listing F sizes dense
+    (F sizes : List ℕ) (dense : ℕ) → sizes ++ filled-sizes F dense ≡ filled-sizes F (length F) → dense ≡ gapless F → Listing F sizes dense
+unfolding within
 listing-is F sizes dense e d =
-    record { ranges = λ n l. rw e (within-filled F n (length F) l); no-gap = rw d (gapless-filled F) }
+    record {
+      ranges = λ n l. ⊎-elim (λ low. narrow n low) (λ high. wide n l (omega arith)) (below-or-not n dense);
+      no-gap = rw d (gapless-filled F);
+    }
+  where
+    ys : List ℕ
+    ys = filled-sizes F dense
+
+    fits : dense ≤ length F
+    fits = rw d (gapless-le F)
+
+    wide : (n : ℕ) → n ≤ length F → dense ≤ n → ListsRange F (within n sizes) dense n
+    wide n l m =
+        let least : min n dense ≡ dense = omega arith in
+        let kept : within n ys ≡ ys = within-all n ys (λ k i. omega (arith, filled-inside F dense k i)) in
+        rw least (sym (within-append n sizes ys kept) ∙ ap (within n) e ∙ within-filled F n (length F) l)
+
+    none : within dense sizes ≡ []
+    none = empty (within dense sizes) (omega (arith, length-append (within dense sizes) ys, ap length (rw least at (wide dense fits (le-refl dense)))))
+      where
+        least : min dense dense ≡ dense
+        least = omega arith
+
+    narrow : (n : ℕ) → n < dense → ListsRange F (within n sizes) dense n
+    narrow n m =
+        let least : min n dense ≡ n = omega arith in
+        let gone : within n sizes ≡ [] = sym (within-within n dense sizes (omega arith)) ∙ ap (within n) none in
+        rw (least, gone)
 
 pub listing-take : (F sizes : List ℕ) (dense own : ℕ) → own ≤ length F → Listing F sizes dense → Listing (take own F) sizes dense
 unfolding nth
 listing-take F sizes dense own o h =
     record {
-      ranges = λ n l. h .ranges n (omega (arith, length-take own F, l)) ∙ filled-agree F (take own F) n (λ i m. sym (same i (omega (arith, length-take own F, l))));
+      ranges = λ n l.
+          let fits : n ≤ own = omega (arith, length-take own F, l) in
+          ap (λ (ys : List ℕ). within n sizes ++ ys) (sym (agree (min n dense) (omega arith))) ∙ h .ranges n (omega arith) ∙ agree n fits;
       no-gap = record { filled = λ i m l. rw (same i (omega (arith, length-take own F))) (h .no-gap .filled i m (omega (arith, length-take own F, l))) };
     }
   where
     same : (i : ℕ) → i < own → getD (take own F) i 0 ≡ getD F i 0
     same i l = getD-take own F i 0 l
 
--- The list from `first` on serves every range up to `limit`.
-pub record ListedFrom (F sizes : List ℕ) (limit first : ℕ) : Type 0 where
-  pub inside : first ≤ length sizes
-  pub ranges : (n : ℕ) → n ≤ limit → within n (drop first sizes) ≡ filled-sizes F n
+    agree : (n : ℕ) → n ≤ own → filled-sizes F n ≡ filled-sizes (take own F) n
+    agree n l = filled-agree F (take own F) n (λ i m. sym (same i (omega arith)))
 
-pub listed-from-start : (F sizes : List ℕ) (dense limit : ℕ) → limit ≤ length F → Listing F sizes dense → ListedFrom F sizes limit 0
+-- The list from `first` on serves every range up to `limit`.
+pub record ListedFrom (F sizes : List ℕ) (dense limit first : ℕ) : Type 0 where
+  pub inside : first ≤ length sizes
+  pub ranges : (n : ℕ) → n ≤ limit → ListsRange F (within n (drop first sizes)) dense n
+
+pub listed-from-start : (F sizes : List ℕ) (dense limit : ℕ) → limit ≤ length F → Listing F sizes dense → ListedFrom F sizes dense limit 0
 listed-from-start F sizes dense limit l h = record { inside = omega arith; ranges = λ n m. h .ranges n (le-trans m l) }
 
 -- without the sizes beyond a narrower range it is that range's list, and serves every range up to it
 pub listed-from-turn :
-    (F sizes : List ℕ) (limit first most next less : ℕ) → most ≤ limit → less ≤ most → drop next sizes ≡ within most (drop first sizes) → next ≤ length sizes →
-    ListedFrom F sizes limit first → (drop next sizes ≡ filled-sizes F most) × ListedFrom F sizes less next
-listed-from-turn F sizes limit first most next less l m e i h = (
-  e ∙ h .ranges most l,
+    (F sizes : List ℕ) (dense limit first most next less : ℕ) → most ≤ limit → less ≤ most → drop next sizes ≡ within most (drop first sizes) → next ≤ length sizes →
+    ListedFrom F sizes dense limit first → ListsRange F (drop next sizes) dense most × ListedFrom F sizes dense less next
+listed-from-turn F sizes dense limit first most next less l m e i h = (
+  rw e (h .ranges most l),
   record {
     inside = i;
-    ranges = λ n k. ap (within n) e ∙ within-within n most (drop first sizes) (le-trans k m) ∙ h .ranges n (le-trans (le-trans k m) l);
+    ranges = λ n k. rw (e, within-within n most (drop first sizes) (le-trans k m)) (h .ranges n (le-trans (le-trans k m) l));
   },
 )
 
 -- the list of a range as it is lent
 pub listed-part :
-    (F sizes : List ℕ) (first most n : ℕ) → drop first sizes ≡ filled-sizes F most → most ≡ n →
-    take (length sizes - first) (drop first sizes) ≡ filled-sizes F n
-listed-part F sizes first most n e m = take-all (length sizes - first) (drop first sizes) (omega (arith, length-drop first sizes)) ∙ e ∙ ap (filled-sizes F) m
+    (F sizes : List ℕ) (dense first most n : ℕ) → ListsRange F (drop first sizes) dense most → most ≡ n →
+    ListsRange F (take (length sizes - first) (drop first sizes)) dense n
+listed-part F sizes dense first most n h e = rw (take-all (length sizes - first) (drop first sizes) (omega (arith, length-drop first sizes)), ← e) h

@@ -1,12 +1,12 @@
 -- Laws of the claim sum as the loops go through it: the sizes listed one by one, and then those without a gap.
-use mathlib.Core.Path.{_≡_, refl, sym, _∙_, ap}
-use mathlib.Core.List.{List, [], _∷_, map}
+use mathlib.Core.Path.{_≡_, sym, _∙_, ap}
+use mathlib.Core.List.{List, [], _∷_, _++_, map}
 use Prim.Native.Nat.{ℕ, zero, suc, _+_, _*_, _-_, _≤_, _<_, min}
 use native.Mathlib.Nat.{le-trans, mul-le-mul-right, zero-add, zero-mul}
 use native.Mathlib.Numerals.{add-one}
 use native.Mathlib.Omega.{arith}
-use lib.ListN.{length, getD, take, drop, length-take, drop-of-length-le}
-use lib.Seq.{drop-cons, getD-take}
+use lib.ListN.{length, getD, drop, length-append, List·getD-append, drop-of-length-le}
+use lib.Seq.{drop-cons}
 use Rattle.model.specs.Scale.{S}
 use Rattle.model.specs.Sums.{sum, total}
 use Rattle.model.specs.Plan.{nth}
@@ -14,9 +14,9 @@ use Rattle.model.specs.MonthRule.{Row, claim-sum}
 use Rattle.model.specs.FilledSizes.{filled-sizes, filled-sum, filled-count}
 use Rattle.model.proofs.SumLaws.{sum-ext, sum-last}
 use Rattle.model.proofs.Month.{claim-sum-bound}
-use Rattle.model.proofs.FilledLaws.{filled-total, filled-sum-is, filled-inside, filled-count-is, filled-all, filled-rest}
+use Rattle.model.proofs.FilledLaws.{filled-total, filled-sum-is, filled-inside, filled-count-is, filled-all}
 use Rattle.claims.specs.Values.{from-top, Parts}
-use Rattle.claims.specs.Listing.{product, SizesIn, NoGap}
+use Rattle.claims.specs.Listing.{product, SizesIn, NoGap, ListsRange}
 
 -- nothing passes S × S
 pub claim-sum-fits : (F : List ℕ) (Y : Row) → total F ≤ S → ((s : ℕ) → Y s ≤ S) → (s : ℕ) → claim-sum F Y s ≤ S * S
@@ -68,30 +68,27 @@ unfolding sum
 down-summing-end f most so-far products zero l h = (omega (arith, h .whole), omega (arith, h .passed))
 down-summing-end f most so-far products (suc x) l h = absurd (omega arith)
 
-total-split : (f : ℕ → ℕ) (j : ℕ) (xs : List ℕ) → total (map f (take j xs)) + total (map f (drop j xs)) ≡ total (map f xs)
+total-append-map : (f : ℕ → ℕ) (xs ys : List ℕ) → total (map f (xs ++ ys)) ≡ total (map f xs) + total (map f ys)
 unfolding total
-total-split f zero xs = zero-add _
-total-split f (suc j) [] = refl
-total-split f (suc j) (x ∷ xs) = omega (arith, total-split f j xs)
+total-append-map f [] ys = sym (zero-add _)
+total-append-map f (x ∷ xs) ys = omega (arith, total-append-map f xs ys)
 
--- The filled sizes of a range in two parts: the first `apart` of them, and all of the sizes 1 to `low`.
-pub record Parted (F after sizes : List ℕ) (low apart : ℕ) : Type 0 where
-  pub front : apart ≤ length sizes
-  pub count : apart + low ≡ length sizes
-  pub sums : total (map (product F after) (take apart sizes)) + sum low (product F after) ≡ sum (min (length after) (length F)) (product F after)
+-- The filled sizes of a range in two parts: those listed, and all of the sizes 1 to `low`.
+pub record Parted (F after sizes : List ℕ) (low : ℕ) : Type 0 where
+  pub count : length sizes + low ≡ filled-count F (length after + 1)
+  pub sums : total (map (product F after) sizes) + sum low (product F after) ≡ sum (min (length after) (length F)) (product F after)
 
 pub parted :
-    (F after sizes : List ℕ) (dense low apart : ℕ) → sizes ≡ filled-sizes F (min (length after) (length F)) → NoGap F dense →
-    low ≡ min (min (length after) (length F)) dense → apart ≡ length sizes - low → Parted F after sizes low apart
+    (F after sizes : List ℕ) (dense low : ℕ) → ListsRange F sizes dense (min (length after) (length F)) → NoGap F dense →
+    low ≡ min (min (length after) (length F)) dense → Parted F after sizes low
 unfolding nth
-parted F after sizes dense low apart es h el ea =
+parted F after sizes dense low e h el =
     record {
-      front = omega (arith, ea);
-      count = omega (arith, ea, rest .0, all, ap length es);
+      count = omega (arith, length-append sizes (filled-sizes F low), all, ap length whole, rw less at (filled-count-is F (length after + 1)));
       sums =
-          ap (λ (t : ℕ). total (map f (take apart sizes)) + t) (sym (filled-total F f empty low) ∙ ap (λ (ys : List ℕ). total (map f ys)) (sym last))
-          ∙ total-split f apart sizes
-          ∙ ap (λ (ys : List ℕ). total (map f ys)) es
+          ap (λ (t : ℕ). total (map f sizes) + t) (sym (filled-total F f empty low))
+          ∙ sym (total-append-map f sizes (filled-sizes F low))
+          ∙ ap (λ (ys : List ℕ). total (map f ys)) whole
           ∙ filled-total F f empty n;
     }
   where
@@ -101,27 +98,25 @@ parted F after sizes dense low apart es h el ea =
     f : ℕ → ℕ
     f = product F after
 
+    less : length after + 1 - 1 ≡ length after
+    less = omega arith
+
     empty : (x : ℕ) → getD F x 0 ≡ 0 → getD F x 0 * getD after x 0 ≡ 0
     empty x e = ap (λ (w : ℕ). w * getD after x 0) e ∙ zero-mul (getD after x 0)
 
     all : length (filled-sizes F low) ≡ low
     all = filled-all F low (λ i l. h .filled i (omega arith) (omega arith))
 
-    rest : (length (filled-sizes F low) ≤ length (filled-sizes F n)) × (drop (length (filled-sizes F n) - length (filled-sizes F low)) (filled-sizes F n) ≡ filled-sizes F low)
-    rest = filled-rest F low n (omega arith)
+    whole : sizes ++ filled-sizes F low ≡ filled-sizes F n
+    whole = ap (λ (k : ℕ). sizes ++ filled-sizes F k) el ∙ e
 
-    last : drop apart sizes ≡ filled-sizes F low
-    last =
-        let place : apart ≡ length (filled-sizes F n) - length (filled-sizes F low) = omega (arith, ea, all, ap length es) in
-        ap (λ (k : ℕ). drop k sizes) place ∙ ap (λ (ys : List ℕ). drop (length (filled-sizes F n) - length (filled-sizes F low)) ys) es ∙ rest .1
-
--- a filled size in range has a weight and a value
-pub sizes-in : (F sizes : List ℕ) (n apart : ℕ) → sizes ≡ filled-sizes F n → SizesIn n (take apart sizes)
-sizes-in F sizes n apart e =
+-- a listed size in range has a weight and a value
+pub sizes-in : (F sizes : List ℕ) (dense n : ℕ) → ListsRange F sizes dense n → SizesIn n sizes
+sizes-in F sizes dense n e =
     record {
       each = λ k l.
-          let shorter : (k < apart) × (k < length sizes) = (omega (arith, length-take apart sizes, l), omega (arith, length-take apart sizes, l)) in
-          rw (getD-take apart sizes k 0 (shorter .0), e) (filled-inside F n k (omega (arith, shorter .1, ap length e)));
+          let longer : k < length (filled-sizes F n) = omega (arith, length-append sizes (filled-sizes F (min n dense)), ap length e) in
+          rw (← List·getD-append sizes (filled-sizes F (min n dense)) 0 k l, e) (filled-inside F n k longer);
     }
 
 -- The sum over the range, of values from the level that many places hold down to 1, is the claim sum from the large end.
@@ -148,10 +143,3 @@ pub whole-fits :
 whole-fits F after hF hV =
     rw (whole-sum F after, filled-sum-is F (from-top (length after) after) (length after + 1))
     (claim-sum-fits F (from-top (length after) after) hF (λ s. hV .each _) (length after + 1))
-
--- the filled sizes in range are as many as the weights above 0 there
-pub whole-count :
-    (F after sizes : List ℕ) → sizes ≡ filled-sizes F (min (length after) (length F)) → length sizes ≡ filled-count F (length after + 1)
-whole-count F after sizes e =
-    let less : length after + 1 - 1 ≡ length after = omega arith in
-    ap length e ∙ rw less at (filled-count-is F (length after + 1))

@@ -1,8 +1,8 @@
 -- The filled sizes of a table as a question lists them.
-use Prim.Native.Nat.{ℕ, suc, _*_, _<_, _≤_}
+use Prim.Native.Nat.{ℕ, suc, _*_, _<_, _≤_, min}
 use mathlib.Core.Path.{_≡_}
 use mathlib.Core.Bool.{cond}
-use mathlib.Core.List.{List, [], _∷_}
+use mathlib.Core.List.{List, [], _∷_, _++_}
 use lib.Dec.{leb, ltb}
 use lib.ListN.{length, getD}
 use Rattle.model.specs.Plan.{nth}
@@ -30,8 +30,11 @@ pub record SizesIn (most : ℕ) (sizes : List ℕ) : Type 0 where
 pub record NoGap (severity : List ℕ) (dense : ℕ) : Type 0 where
   pub filled : (i : ℕ) → i < dense → i < length severity → 0 < getD severity i 0
 
--- The filled sizes of a table: for each range they are what is left of the list without the sizes beyond that range. Of the sizes 1 to `dense` none is
--- empty.
+-- The list and the sizes up to `dense` have the filled sizes of the range 1 to n.
+abbrev pub ListsRange : List ℕ → List ℕ → ℕ → ℕ → Type 0
+ListsRange severity sizes dense n = sizes ++ filled-sizes severity (min n dense) ≡ filled-sizes severity n
+
+-- What a question lists of its table: for each range, the list without the sizes beyond it has the filled sizes. Of the sizes 1 to `dense` none is empty.
 pub record Listing (severity sizes : List ℕ) (dense : ℕ) : Type 0 where
-  pub ranges : (n : ℕ) → n ≤ length severity → within n sizes ≡ filled-sizes severity n
+  pub ranges : (n : ℕ) → n ≤ length severity → ListsRange severity (within n sizes) dense n
   pub no-gap : NoGap severity dense

@@ -1,35 +1,12 @@
 // The sizes of a table that are not empty. A question lists them once.
 ghost use mathlib.Core.Path.{_≡_};
+ghost use mathlib.Core.List.{_++_};
 ghost use Prim.Native.Nat.{_≤_};
 ghost use lib.ListN.{length, take, drop};
 ghost use Rattle.model.specs.Limits.{max-sizes};
 ghost use Rattle.model.specs.FilledSizes.{filled-sizes};
 ghost use Rattle.claims.specs.Listing.{gapless, within};
 use model::limits;
-
-// The first `count` numbers are the filled sizes, the largest first.
-pub struct FilledSizes {
-    pub sizes: [usize; limits::SIZES],
-    pub count: usize,
-}
-
-pub fn filled_sizes(severity: &[u32]) -> FilledSizes
-    requires { ⌜ length (now severity) ≤ max-sizes ⌝ }
-    ensures listed { λ r. ⌜ take (r .count) (r .sizes) ≡ filled-sizes (now (severity .entry)) (length (now (severity .entry))) ⌝ }
-    ensures sized { λ r. ⌜ r .count ≤ length (r .sizes) ⌝ }
-{
-    let mut sizes = [0; limits::SIZES];
-    let mut count = 0;
-    let mut x = severity.len();
-    while 0 < x {
-        if severity[x - 1] != 0 {
-            sizes[count] = x;
-            count += 1;
-        }
-        x -= 1;
-    }
-    FilledSizes { sizes, count }
-}
 
 // How many sizes are filled from size 1 on before the first empty one.
 pub fn gapless_sizes(severity: &[u32]) -> usize
@@ -43,6 +20,32 @@ pub fn gapless_sizes(severity: &[u32]) -> usize
         x += 1;
     }
     x
+}
+
+// The first `count` numbers are the listed sizes, the largest first.
+pub struct FilledSizes {
+    pub sizes: [usize; limits::SIZES],
+    pub count: usize,
+}
+
+// The filled sizes above `dense`.
+pub fn filled_above(severity: &[u32], dense: usize) -> FilledSizes
+    requires { ⌜ (length (now severity) ≤ max-sizes) × (dense ≤ length (now severity)) ⌝ }
+    ensures listed { λ r.
+        ⌜ take (r .count) (r .sizes) ++ filled-sizes (now (severity .entry)) dense ≡ filled-sizes (now (severity .entry)) (length (now (severity .entry))) ⌝ }
+    ensures sized { λ r. ⌜ r .count ≤ length (r .sizes) ⌝ }
+{
+    let mut sizes = [0; limits::SIZES];
+    let mut count = 0;
+    let mut x = severity.len();
+    while dense < x {
+        if severity[x - 1] != 0 {
+            sizes[count] = x;
+            count += 1;
+        }
+        x -= 1;
+    }
+    FilledSizes { sizes, count }
 }
 
 // From where on, at `from` or later, the listed sizes are at most `most`.

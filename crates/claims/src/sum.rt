@@ -5,10 +5,9 @@ ghost use Prim.Native.Nat.{_+_, _*_, _<_, _≤_, min};
 ghost use lib.ListN.{length};
 ghost use Rattle.model.specs.Scale.{S};
 ghost use Rattle.model.specs.Sums.{sum, total};
-ghost use Rattle.model.specs.FilledSizes.{filled-sizes, filled-sum, filled-count};
-ghost use Rattle.claims.specs.Listing.{product, SizesIn, NoGap};
+ghost use Rattle.model.specs.FilledSizes.{filled-sum, filled-count};
+ghost use Rattle.claims.specs.Listing.{product, SizesIn, NoGap, ListsRange};
 ghost use Rattle.claims.specs.Values.{from-top, Parts};
-use numbers::difference;
 use numbers::lesser;
 use numbers::wide;
 
@@ -53,12 +52,12 @@ fn dense_sum(severity: &[u32], after: &[u32], most: usize) -> ClaimSum
     ClaimSum { sum, products }
 }
 
-// The claim sum over the values that claims lead to, which lie one after the other, the last at level 1. `sizes` are the filled sizes in range; of
-// the sizes 1 to `dense` none is empty, so that those need no list.
+// The claim sum over the values that claims lead to, which lie one after the other, the last at level 1. Of the
+// sizes 1 to `dense` none is empty, so that those need no list; `sizes` are the filled sizes in range above them.
 pub fn claim_sum(severity: &[u32], sizes: &[usize], dense: usize, after: &[u32]) -> ClaimSum
     requires { ⌜ Parts (now after) ⌝ }
     requires { ⌜ total (now severity) ≤ S ⌝ }
-    requires { ⌜ now sizes ≡ filled-sizes (now severity) (min (length (now after)) (length (now severity))) ⌝ }
+    requires { ⌜ ListsRange (now severity) (now sizes) dense (min (length (now after)) (length (now severity))) ⌝ }
     requires { ⌜ NoGap (now severity) dense ⌝ }
     ensures sum { λ r.
         ⌜ r .sum ≡ filled-sum (now (severity .entry)) (from-top (length (now (after .entry))) (now (after .entry))) (length (now (after .entry)) + 1) ⌝ }
@@ -66,11 +65,9 @@ pub fn claim_sum(severity: &[u32], sizes: &[usize], dense: usize, after: &[u32])
 {
     let most = lesser(after.len(), severity.len());
     let low = lesser(most, dense);
-    let apart = difference(sizes.len(), low);
-    let listed = listed_sum(severity, &sizes[..apart], after);
+    let listed = listed_sum(severity, sizes, after);
     let rest = dense_sum(severity, after, low);
-    ClaimSum {
-        sum: listed.sum + rest.sum,
-        products: listed.products + rest.products,
-    }
+    let sum = listed.sum + rest.sum;
+    let products = listed.products + rest.products;
+    ClaimSum { sum, products }
 }

@@ -20,7 +20,7 @@ use Rattle.model.specs.Refusal.{first, head-checks, length-check, number-checks
 use Rattle.model.proofs.Facts.{neither, not-zero, numbered, first-append, none-fits, none-fits-append, plan-numbered, plan-first}
 use Rattle.month_rule.specs.Rows.{between, after-claim-by}
 use Rattle.month_rule.specs.Shapes.{rule-by}
-use Rattle.month_rule.proofs.ValueLaws.{below-or-not}
+use Rattle.model.proofs.SumLaws.{below-or-not}
 use Rattle.month_rule.proofs.AllMonths.{Agree, values-agree}
 use Rattle.engine.specs.Questions.{shape-of}
 

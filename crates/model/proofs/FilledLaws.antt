@@ -3,10 +3,10 @@ use mathlib.Core.Path.{_≡_, refl, sym, _∙_, ap}
 use mathlib.Core.Bool.{Bool, true, false, cond}
 use mathlib.Core.List.{List, [], _∷_, map}
 use Prim.Native.Nat.{ℕ, zero, suc, _+_, _*_, _-_, _≤_, _<_, min}
-use native.Mathlib.Nat.{le-refl, zero-mul, zero-add, add-zero, suc-add, sub-self, sub-add-cancel, min-zero, zero-min, suc-min-suc}
+use native.Mathlib.Nat.{le-refl, zero-mul, zero-add, add-zero, suc-add, min-zero, zero-min, suc-min-suc}
 use native.Mathlib.Omega.{arith}
 use lib.Dec.{ltb}
-use lib.ListN.{length, getD, take, drop}
+use lib.ListN.{length, getD, take}
 use borrow.Author.Tests.{ltb-true, ltb-false, lt-ltb}
 use Rattle.model.specs.Sums.{sum, total, count}
 use Rattle.model.specs.Plan.{nth}
@@ -116,24 +116,3 @@ pub filled-all : (F : List ℕ) (n : ℕ) → ((i : ℕ) → i < n → 0 < nth F
 filled-all F n h =
     filled-ind F (λ k xs. k ≤ n → length xs ≡ k) (λ l. refl) (λ k xs w e l. ap suc (e (omega arith)))
     (λ k xs z e l. absurd (omega (arith, h k (omega arith), z))) n (le-refl n)
-
--- Those of a narrower range come last.
-pub filled-rest :
-    (F : List ℕ) (d n : ℕ) → d ≤ n →
-    (length (filled-sizes F d) ≤ length (filled-sizes F n))
-    × (drop (length (filled-sizes F n) - length (filled-sizes F d)) (filled-sizes F n) ≡ filled-sizes F d)
-filled-rest F d n l = rw (sub-add-cancel l) at (filled-from F Rest d first more (λ k xs z h. h) (n - d))
-  where
-    ys : List ℕ
-    ys = filled-sizes F d
-
-    Rest : ℕ → List ℕ → Type 0
-    Rest k xs = (length ys ≤ length xs) × (drop (length xs - length ys) xs ≡ ys)
-
-    first : Rest d ys
-    first = (le-refl (length ys), rw sub-self)
-
-    more : (k : ℕ) (xs : List ℕ) → 0 < nth F (suc k) → Rest k xs → Rest (suc k) (suc k ∷ xs)
-    more k xs w h =
-        let longer : suc (length xs) - length ys ≡ suc (length xs - length ys) = omega (arith, h .0) in
-        (omega (arith, h .0), rw longer (h .1))

@@ -1,7 +1,8 @@
--- Laws of the sums over 1 to n and over lists.
+-- Laws of the sums over 1 to n and over lists, and of numbers.
 use mathlib.Core.Path.{_≡_, refl, sym, _∙_, ap, ap₂}
 use mathlib.Core.List.{List, [], _∷_, _++_, map, map-map}
-use Prim.Native.Nat.{ℕ, zero, suc, _+_, _*_, _^_, _≤_, zero-le, _<_, min}
+use mathlib.Core.Logic.{_⊎_, inl, inr, ⊎-elim}
+use Prim.Native.Nat.{ℕ, zero, suc, _+_, _*_, _^_, _≤_, zero-le, suc-le-suc, _<_, min}
 use native.Mathlib.Nat.{mul-add, add-mul, mul-zero, zero-mul, suc-mul, pow-succ', zero-add, min-zero, zero-min, suc-min-suc}
 use native.Mathlib.Omega.{arith}
 use lib.ListN.{length, drop}
@@ -122,3 +123,9 @@ positive-none xs = zero-add _
 pub positive-more : (x : ℕ) (xs : List ℕ) → 0 < x → count (λ x. ltb 0 x) (x ∷ xs) ≡ 1 + count (λ x. ltb 0 x) xs
 unfolding count
 positive-more x xs l = rw (lt-ltb 0 x l)
+
+-- a number is below another or not
+pub below-or-not : (s n : ℕ) → (s < n) ⊎ (n ≤ s)
+below-or-not s zero = inr zero-le
+below-or-not zero (suc n) = inl (omega arith)
+below-or-not (suc s) (suc n) = ⊎-elim (λ l. inl (suc-le-suc l)) (λ l. inr (suc-le-suc l)) (below-or-not s n)

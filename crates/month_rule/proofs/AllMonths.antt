@@ -17,7 +17,7 @@ use Rattle.model.proofs.LevelLaws.{level-start, level-next, level-from}
 use Rattle.month_rule.specs.declared.rows.Shape.{Shape}
 use Rattle.month_rule.specs.Rows.{after-claim-by, at, between}
 use Rattle.month_rule.specs.Shapes.{row-with, values-in, rule-by, allowed-places, beyond-opening, TakenBack}
-use Rattle.month_rule.proofs.ValueLaws.{below-or-not}
+use Rattle.model.proofs.SumLaws.{below-or-not}
 use Rattle.month_rule.proofs.OneMonth.{month-agree}
 
 -- two rules that agree on the first rows, up to a level

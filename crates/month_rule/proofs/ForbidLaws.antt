@@ -12,7 +12,7 @@ use borrow.Author.Tests.{le-leb, lt-leb, lt-ltb, le-ltb}
 use borrow.Rule.Slice.PartMut.{midOf, postOf, putMid}
 use Rattle.model.specs.MonthRule.{kept}
 use Rattle.month_rule.specs.Rows.{at, between}
-use Rattle.month_rule.proofs.ValueLaws.{below-or-not}
+use Rattle.model.proofs.SumLaws.{below-or-not}
 
 pub getD-zeros : (n k : ℕ) → _≡_ {A = ℕ} (getD (replicate n 0) k 0) 0
 getD-zeros zero k = refl

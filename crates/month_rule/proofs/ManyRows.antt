@@ -19,7 +19,7 @@ use Rattle.month_rule.specs.declared.rows.Shape.{Shape}
 use Rattle.claims.specs.Values.{Parts}
 use Rattle.month_rule.specs.Rows.{at, between}
 use Rattle.month_rule.specs.Shapes.{row-with, values-in, RowsIn, allowed-places}
-use Rattle.month_rule.proofs.ValueLaws.{below-or-not}
+use Rattle.model.proofs.SumLaws.{below-or-not}
 use Rattle.month_rule.proofs.RowLaws.{parts-part}
 use Rattle.month_rule.proofs.ForbidLaws.{getD-past}
 

@@ -1,18 +1,11 @@
 -- Laws of one value: the rounding by a bias.
 use mathlib.Core.Path.{_≡_, refl, fun-ext}
-use mathlib.Core.Logic.{_⊎_, inl, inr, ⊎-elim}
-use Prim.Native.Nat.{ℕ, zero, suc, _+_, _*_, _-_, _≤_, zero-le, suc-le-suc, _<_}
+use Prim.Native.Nat.{ℕ, _+_, _*_, _-_, _≤_, _<_}
 use native.Mathlib.Nat.{add-zero}
 use native.Mathlib.Omega.{arith}
 use Rattle.model.specs.Scale.{S, down, up}
 use Rattle.model.proofs.Month.{mixture-le}
 use Rattle.month_rule.specs.Rows.{round-by}
-
--- a number is below another or not
-pub below-or-not : (s n : ℕ) → (s < n) ⊎ (n ≤ s)
-below-or-not s zero = inr zero-le
-below-or-not zero (suc n) = inl (omega arith)
-below-or-not (suc s) (suc n) = ⊎-elim (λ l. inl (suc-le-suc l)) (λ l. inr (suc-le-suc l)) (below-or-not s n)
 
 -- a quotient by S, rounded either way, of what does not pass S × S
 pub round-by-le : (bias x : ℕ) → bias < S → x ≤ S * S → round-by bias x ≤ S

@@ -15,7 +15,7 @@ use crate::rows::Shape;
 use crate::rows::fill;
 use crate::value::ROUND_DOWN;
 use crate::value::ROUND_UP;
-use claims::sizes::filled_sizes;
+use claims::sizes::filled_above;
 use claims::sizes::gapless_sizes;
 
 // A lower and an upper bound in parts of S.
@@ -110,10 +110,10 @@ pub fn halves_back(
     ensures upper { λ _.
         ⌜ TakenBack up (now (severity .entry)) shape opening (now (chances .entry)) (drop (rows-size shape) (now (halves .entry))) (drop (rows-size shape) (now (halves .exit))) ⌝ }
 {
-    let filled = filled_sizes(severity);
+    let dense = gapless_sizes(severity);
+    let filled = filled_above(severity, dense);
     let sizes = filled.sizes;
     let count = filled.count;
-    let dense = gapless_sizes(severity);
     listed_halves_back(
         halves,
         shape,

@@ -3,7 +3,7 @@ ghost use Rattle.model.specs.Refusal.{Accepted};
 ghost use Rattle.claims.specs.Listing.{Listing};
 ghost use Rattle.month_rule.specs.Rows.{PlanTerms};
 use crate::text;
-use claims::sizes::filled_sizes;
+use claims::sizes::filled_above;
 use claims::sizes::first_within;
 use claims::sizes::gapless_sizes;
 use claims::sum::claim_sum;
@@ -32,10 +32,10 @@ fn add(head: Head, count: usize, row: &[u32])
 fn list(severity: &[u32], after: &[u32])
     requires { ⌜ PlanTerms (now severity) (now after) ⌝ }
 {
-    let filled = filled_sizes(severity);
+    let dense = gapless_sizes(severity);
+    let filled = filled_above(severity, dense);
     let sizes = filled.sizes;
     let count = filled.count;
-    let dense = gapless_sizes(severity);
     sum(severity, &sizes[..count], dense, after);
 }
 

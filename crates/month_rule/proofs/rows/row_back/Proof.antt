@@ -7,9 +7,9 @@ use lib.ListN.{length, take, drop}
 use lib.Seq.{getD-drop}
 use Rattle.model.specs.Scale.{S}
 use Rattle.model.specs.MonthRule.{claim-sum}
-use Rattle.model.specs.FilledSizes.{filled-sizes}
 use Rattle.model.proofs.LevelLaws.{gain-some}
 use Rattle.claims.specs.Values.{from-top}
+use Rattle.claims.specs.Listing.{ListsRange}
 use Rattle.claims.proofs.ListingLaws.{ListedFrom, listed-from-start, listed-from-turn, listed-part}
 use Rattle.claims.proofs.SummingLaws.{claim-sum-fits}
 use Rattle.month_rule.proofs.ValueLaws.{value-le}
@@ -19,7 +19,7 @@ use Rattle.month_rule.proofs.rows.row_back.Tie as tie
 
 abbrev Inv-loop : tie.InvT-loop
 Inv-loop rows₀ quiet claimed top live severity sizes dense chance bias end first₀ i₀ rows first i =
-    (i ≤ live) × Rewriting rows₀ quiet (row-before bias severity chance quiet claimed top live rows₀) rows i × ListedFrom severity sizes (min (top - i) (length severity)) first
+    (i ≤ live) × Rewriting rows₀ quiet (row-before bias severity chance quiet claimed top live rows₀) rows i × ListedFrom severity sizes dense (min (top - i) (length severity)) first
 
 abbrev μ-loop : tie.MeasureT-loop
 μ-loop rows₀ quiet claimed top live severity sizes dense chance bias end first₀ i₀ rows first i = live - i
@@ -82,13 +82,13 @@ listed :
     (c : tie.After-first-within Inv-loop μ-loop) →
     let a = start (at-loop (turn c)) .args in
     let next = c .first-within .result in
-    (drop next (a .sizes .now) ≡ filled-sizes (a .severity .now) (c .before .lesser .result))
-    × ListedFrom (a .severity .now) (a .sizes .now) (min (a .top - (at-loop (turn c) .loop .i + 1)) (length (a .severity .now))) next
+    ListsRange (a .severity .now) (drop next (a .sizes .now)) (a .dense) (c .before .lesser .result)
+    × ListedFrom (a .severity .now) (a .sizes .now) (a .dense) (min (a .top - (at-loop (turn c) .loop .i + 1)) (length (a .severity .now))) next
 listed c =
     let most = c .before .lesser .ensures in
     let a = start (at-loop (turn c)) .args in
     let loop = at-loop (turn c) .loop in
-    listed-from-turn (a .severity .now) (a .sizes .now) _ (loop .first) (c .before .lesser .result) (c .first-within .result) _ (omega (arith, most)) (omega (arith, most))
+    listed-from-turn (a .severity .now) (a .sizes .now) (a .dense) _ (loop .first) (c .before .lesser .result) (c .first-within .result) _ (omega (arith, most)) (omega (arith, most))
     (c .first-within .ensures .0) (c .first-within .ensures .1) (loop .inv .2)
 
 mul-claim-sum : tie.Need-mul-claim-sum Inv-loop μ-loop
@@ -126,7 +126,7 @@ claim-sum-requires c κs =
     let size = length-part (loop .rows) next end (omega (arith, inside (turn at-range))) (inside (turn at-range) .1) in
     let most : at-range .before .lesser .result ≡ min (length (take (end - next) (drop next (loop .rows)))) (length (a .severity .now)) =
     omega (arith, at-range .before .lesser .ensures, size) in
-    let range = listed-part (a .severity .now) (a .sizes .now) (at-range .first-within .result) (at-range .before .lesser .result) _ (listed at-range .0) most in
+    let range = listed-part (a .severity .now) (a .sizes .now) (a .dense) (at-range .first-within .result) (at-range .before .lesser .result) _ (listed at-range .0) most in
     (parts-part (loop .rows) next (end - next) (loop .inv .1 .parts), (from .pre .1 .1 .weights-fit, (range, from .pre .1 .1 .listing .no-gap)))
 
 -- the claim sum of a turn is over the old row, and fits

@@ -1,7 +1,7 @@
 -- `sum` meets its contract: of the list it hands on what lies in range.
-use mathlib.Core.Path.{_∙_}
+use native.Mathlib.Nat.{le-refl}
 use native.Mathlib.Omega.{arith}
-use Rattle.claims.proofs.ListingLaws.{listed-part}
+use Rattle.claims.proofs.ListingLaws.{listed-from-start, listed-from-turn, listed-part}
 use Rattle.vectors.proofs.sums.sum.Statement.{statement}
 use Rattle.vectors.proofs.sums.sum.Tie as tie
 
@@ -34,8 +34,11 @@ claim-sum-requires c κs =
     let a = from .args in
     let listing = from .pre .1 in
     let range =
-    listed-part (a .severity .now) (a .sizes .now) (at-range .first-within .result) (most .result) _
-    (at-range .first-within .ensures .0 ∙ listing .ranges (most .result) (omega (arith, most .ensures))) (most .ensures) in
+    listed-part (a .severity .now) (a .sizes .now) (a .dense) (at-range .first-within .result) (most .result) _
+    (listed-from-turn (a .severity .now) (a .sizes .now) (a .dense) (most .result) 0 (most .result) (at-range .first-within .result) (most .result) (le-refl _) (le-refl _)
+    (at-range .first-within .ensures .0) (at-range .first-within .ensures .1)
+    (listed-from-start (a .severity .now) (a .sizes .now) (a .dense) (most .result) (omega (arith, most .ensures)) listing) .0)
+    (most .ensures) in
     (from .pre .0 .chances-fit, (from .pre .0 .weights-fit, (range, listing .no-gap)))
 
 line-requires : tie.Need-line-requires

@@ -1,24 +1,24 @@
--- `filled_sizes` meets its contract. The invariant: the sizes listed and those still to come are the whole.
+-- `filled_above` meets its contract. The invariant: the sizes listed and those still to come are the whole.
 use mathlib.Core.Path.{refl}
 use mathlib.Core.Logic.{⊎-elim}
-use Prim.Native.Nat.{ℕ, _≤_}
+use Prim.Native.Nat.{ℕ, _<_, _≤_}
 use native.Mathlib.Nat.{le-refl}
 use lib.ListN.{length, length-replicate}
 use Rattle.model.specs.Limits.{max-sizes}
 use Rattle.claims.proofs.ListingLaws.{Listed, listed-filled, listed-empty, listed-end}
 use borrow.Author.Needs.{needs}
 use native.Mathlib.Omega.{arith}
-use Rattle.claims.proofs.sizes.filled_sizes.Statement.{statement}
-use Rattle.claims.proofs.sizes.filled_sizes.Tie as tie
+use Rattle.claims.proofs.sizes.filled_above.Statement.{statement}
+use Rattle.claims.proofs.sizes.filled_above.Tie as tie
 
 abbrev Inv-loop : tie.InvT-loop
-Inv-loop severity sizes₀ count₀ x₀ sizes count x = (x ≤ length severity) × Listed severity sizes count x
+Inv-loop severity dense sizes₀ count₀ x₀ sizes count x = (dense ≤ x) × (x ≤ length severity) × Listed severity sizes count x
 
 abbrev μ-loop : tie.MeasureT-loop
-μ-loop severity sizes₀ count₀ x₀ sizes count x = x
+μ-loop severity dense sizes₀ count₀ x₀ sizes count x = x
 
 loop-holds : tie.Need-loop-holds Inv-loop μ-loop
-loop-holds c = (le-refl _, record { room = length-replicate {A = ℕ} max-sizes 0; fits = omega arith; whole = refl })
+loop-holds c = (c .pre .1, le-refl _, record { room = length-replicate {A = ℕ} max-sizes 0; fits = omega arith; whole = refl })
 
 abbrev turn : tie.After-shared-slice-known Inv-loop μ-loop → tie.In-loop Inv-loop μ-loop
 turn c = c .before
@@ -52,23 +52,25 @@ loop-again c =
     let at-turn = turn (c .before) in
     let loop = at-turn .before .loop in
     let from = at-turn .before .before in
+    let here : 0 < loop .x = omega (arith, at-turn .loop-test .taken) in
     let F = from .args .severity .now in (
-      omega (arith, loop .inv .0),
+      omega (arith, at-turn .loop-test .taken),
+      omega (arith, loop .inv .1),
       ⊎-elim
-          (λ t. listed-filled F (loop .sizes) _ (loop .count) (loop .x) _ (from .pre) (at-turn .loop-test .taken) (t .0 .taken) (t .1) (t .2) (loop .inv .1))
-          (λ t. listed-empty F (loop .sizes) _ (loop .count) (loop .x) _ (at-turn .loop-test .taken) (t .0 .left) (t .1) (t .2) (loop .inv .1)) (c .if1 .came),
+          (λ t. listed-filled F (loop .sizes) _ (loop .count) (loop .x) _ (from .pre .0) here (t .0 .taken) (t .1) (t .2) (loop .inv .2))
+          (λ t. listed-empty F (loop .sizes) _ (loop .count) (loop .x) _ here (t .0 .left) (t .1) (t .2) (loop .inv .2)) (c .if1 .came),
     )
 
 returns : tie.Need-returns Inv-loop μ-loop
 returns c =
     let loop = c .before .loop in
     let from = c .before .before in (
-      listed-end (from .args .severity .now) (loop .sizes) (loop .count) (loop .x) (c .loop-test .left) (loop .inv .1),
-      omega (arith, loop .inv .1 .fits, loop .inv .1 .room, from .pre),
+      listed-end (from .args .severity .now) (loop .sizes) (loop .count) (loop .x) (from .args .dense) (c .loop-test .left) (loop .inv .0) (loop .inv .2),
+      omega (arith, loop .inv .2 .fits, loop .inv .2 .room, from .pre .0),
     )
 
-pub filled-sizes-spec : {M : Type 1} → statement M
-filled-sizes-spec =
+pub filled-above-spec : {M : Type 1} → statement M
+filled-above-spec =
     tie.close
     (tie.spec
     Inv-loop
