@@ -1,4 +1,5 @@
-//! Documents 01 and 02 as a plain Rust program: plan bytes on standard input, the reserve report on standard output.
+//! Documents 01 and 02 as a plain Rust program: plan bytes on standard input, the reserve report on standard output. With the argument `sheet`: a
+//! rule sheet on standard input, its plan bytes on standard output or, on standard error, the number that turns it away.
 //!
 //!   rustc -O docs/src/baseline.rs -o OUT
 //!
@@ -7,6 +8,7 @@
 //! claim sum from the largest size down.
 use std::fmt::{Display, Write as _};
 use std::io::{self, Read, Write as _};
+use std::{env, iter};
 
 const S: u64 = 1 << 30;
 const MONTHS: usize = 120;
@@ -68,13 +70,7 @@ impl Bits<'_> {
     }
 }
 
-/// The plan, or the number that turns the bytes away.
-fn read(bytes: &[u8]) -> Result<Plan, u32> {
-    if 8 * bytes.len() < HEAD_BITS.iter().sum() {
-        return Err(1);
-    }
-    let mut bits = Bits { bytes, at: 0 };
-    let [n, u, m] = HEAD_BITS.map(|width| bits.take(width) as usize);
+fn check_head(n: usize, u: usize, m: usize) -> Result<(), u32> {
     if n > MONTHS {
         return Err(2);
     }
@@ -84,6 +80,24 @@ fn read(bytes: &[u8]) -> Result<Plan, u32> {
     if m == 0 || m > SIZES {
         return Err(4);
     }
+    Ok(())
+}
+
+fn check_tail(n: usize, u: usize, m: usize, over: u64) -> Result<(), u32> {
+    if over > 0 && m + 1 < u + n {
+        return Err(9);
+    }
+    Ok(())
+}
+
+/// The plan, or the number that turns the bytes away.
+fn read(bytes: &[u8]) -> Result<Plan, u32> {
+    if 8 * bytes.len() < HEAD_BITS.iter().sum() {
+        return Err(1);
+    }
+    let mut bits = Bits { bytes, at: 0 };
+    let [n, u, m] = HEAD_BITS.map(|width| bits.take(width) as usize);
+    check_head(n, u, m)?;
     if bytes.len() != (bits.at + NUMBER_BITS * (n + m + 1)).div_ceil(8) {
         return Err(5);
     }
@@ -97,11 +111,60 @@ fn read(bytes: &[u8]) -> Result<Plan, u32> {
     if row[n..].iter().sum::<u64>() != S {
         return Err(8);
     }
-    if row[n + m] > 0 && m + 1 < u + n {
-        return Err(9);
-    }
+    check_tail(n, u, m, row[n + m])?;
     let row: Vec<u32> = row.iter().map(|&x| x as u32).collect();
     Ok(Plan::new(u, &row[..n], &row[n..n + m]))
+}
+
+fn write(head: [usize; 3], row: &[u64]) -> Vec<u8> {
+    let head = head.map(|x| x as u64);
+    let widths = HEAD_BITS.iter().chain(iter::repeat(&NUMBER_BITS));
+    let mut bits = Vec::new();
+    for (number, width) in head.iter().chain(row).zip(widths) {
+        bits.extend((0..*width).rev().map(|at| (number >> at & 1) as u8));
+    }
+    bits.resize(bits.len().next_multiple_of(8), 0);
+    bits.chunks(8).map(|byte| byte.iter().fold(0, |number, bit| number << 1 | bit)).collect()
+}
+
+// ---- Rule sheets
+
+/// The widths in bits of the kind, n, u, m, first, step and alpha.
+const SHEET_BITS: [usize; 7] = [8, 8, 8, 16, 64, 64, 64];
+const LEVEL: u64 = 1;
+const RAMP: u64 = 2;
+
+/// Parts of S: the product is exact, since S is a power of 2, and the cast rounds what is not below 0 down.
+fn parts(x: f64) -> u64 {
+    (x * S as f64) as u64
+}
+
+/// The plan's head and row, or the number that turns the sheet away. Comparing takes minus zero for zero.
+fn read_sheet(bytes: &[u8]) -> Result<([usize; 3], Vec<u64>), u32> {
+    if 8 * bytes.len() != SHEET_BITS.iter().sum() {
+        return Err(5);
+    }
+    let mut bits = Bits { bytes, at: 0 };
+    let [kind, n, u, m, first, step, alpha] = SHEET_BITS.map(|width| bits.take(width));
+    if kind != LEVEL && kind != RAMP {
+        return Err(12);
+    }
+    let [n, u, m] = [n, u, m].map(|x| x as usize);
+    check_head(n, u, m)?;
+    let [first, step, alpha] = [first, step, alpha].map(f64::from_bits);
+    if ![first, step, alpha].iter().all(|x| x.is_finite()) || !(0.0..1.0).contains(&alpha) || kind == LEVEL && step != 0.0 {
+        return Err(13);
+    }
+    let chances: Vec<f64> = (0..n).map(|before| if kind == LEVEL { first } else { first + before as f64 * step }).collect();
+    if !chances.iter().all(|chance| (0.0..=1.0).contains(chance)) {
+        return Err(13);
+    }
+    let weights = iter::successors(Some(1.0 - alpha), |weight| Some(weight * alpha)).take(m);
+    let mut row: Vec<u64> = chances.into_iter().chain(weights).map(parts).collect();
+    let over = S.checked_sub(row[n..].iter().sum()).ok_or(8u32)?;
+    check_tail(n, u, m, over)?;
+    row.push(over);
+    Ok(([n, u, m], row))
 }
 
 // ---- The month rule
@@ -254,6 +317,12 @@ fn report(plan: &Plan) -> String {
 fn main() -> io::Result<()> {
     let mut bytes = Vec::new();
     io::stdin().read_to_end(&mut bytes)?;
+    if env::args().nth(1).as_deref() == Some("sheet") {
+        return match read_sheet(&bytes) {
+            Ok((head, row)) => io::stdout().write_all(&write(head, &row)),
+            Err(number) => writeln!(io::stderr(), "refused {number}"),
+        };
+    }
     let text = match read(&bytes) {
         Ok(plan) => report(&plan),
         Err(number) => format!("refused {number}\n"),

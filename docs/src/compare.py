@@ -1,12 +1,15 @@
 #!/usr/bin/env python3
-"""Holds two programs for the reserve report against each other.
+"""Holds two programs for the reserve report against each other, or two that turn rule sheets into plan bytes.
 
   compare.py PROGRAM REFERENCE [COUNT]
+  compare.py --sheets PROGRAM REFERENCE [COUNT]
 
-Makes COUNT (100) random accepted plans of all sizes and as many damaged ones, always the same, hands each to both programs on standard input,
-and compares what they write, byte for byte. The last line is the number of differences.
+Makes COUNT (100) random accepted plans or sheets of all sizes and as many damaged ones, always the same, hands each to both programs on standard
+input, and compares what they write on standard output and standard error, byte for byte. A program may be a command of several words, given as
+one. The last line is the number of differences.
 """
 import random
+import shlex
 import subprocess
 import sys
 import time
@@ -14,6 +17,8 @@ from collections import Counter
 
 from plans import changed, flipped, gapped, geometric, some_chance, split
 from rules import CLAIMS, HEAD_BITS, HEAD_BYTES, LARGEST, MONTHS, OPENING, SIZES, Head, S, bit_length, byte_length, write_bytes
+from sheet_cases import damaged_sheet, some_sheet
+from sheets import write_sheet
 
 BEYOND = -(-byte_length(LARGEST) // 100) * 100  # a round number of bytes, a little past the longest plan
 
@@ -136,48 +141,70 @@ def damaged(rng):
     return rng.choice(DAMAGES)(rng, head, some_row(rng, head))
 
 
+# ---- Sheets, of heads as these plans have
+
+
+def accepted_sheet(rng):
+    return write_sheet(some_sheet(rng, some_head(rng)))
+
+
+def some_damaged_sheet(rng):
+    return damaged_sheet(rng, some_head(rng))
+
+
 # ---- The comparison
+
+# What the programs are given and what they make of it, and how it is made, accepted and damaged.
+PLANS = "plans", "reports", {"accepted": accepted, "damaged": damaged}
+SHEETS = "sheets", "plans", {"accepted": accepted_sheet, "damaged": some_damaged_sheet}
 
 
 class Program:
-    def __init__(self, path):
-        self.path, self.seconds = path, 0.0
+    def __init__(self, command):
+        self.command, self.seconds = command, 0.0
 
-    def report(self, data):
+    def answer(self, data):
+        """What it writes on standard output and on standard error."""
         start = time.perf_counter()
-        text = subprocess.run([self.path], input=data, stdout=subprocess.PIPE, check=True).stdout
+        ran = subprocess.run(shlex.split(self.command), input=data, capture_output=True, check=True)
         self.seconds += time.perf_counter() - start
-        return text
+        return ran.stdout, ran.stderr
 
 
-def outcome(text):
-    return text.decode().strip() if text.startswith(b"refused ") else "reports"
+def outcome(answer, made):
+    """A refused plan is said on standard output, a refused sheet on standard error."""
+    text = b"".join(answer)
+    return text.decode().strip() if text.startswith(b"refused ") else made
 
 
-def compare(programs, plans):
-    """How often each outcome came, and the number of plans on which the programs differ."""
+def compare(programs, inputs, made):
+    """How often each outcome came, and the number of inputs on which the programs differ."""
     outcomes, differences = Counter(), 0
-    for data in plans:
-        one, other = (program.report(data) for program in programs)
-        outcomes[outcome(other)] += 1
+    for data in inputs:
+        one, other = (program.answer(data) for program in programs)
+        outcomes[outcome(other, made)] += 1
         if one != other:
             differences += 1
-            print(f"differs on the plan {data.hex()}")
+            print(f"differs on {data.hex()}")
     return outcomes, differences
 
 
 def main(words):
+    given, made, makers = PLANS
+    if words[:1] == ["--sheets"]:
+        given, made, makers = SHEETS
+        words = words[1:]
     if len(words) not in (2, 3):
         sys.exit(__doc__)
-    programs = [Program(path) for path in words[:2]]
+    programs = [Program(command) for command in words[:2]]
     count = int(words[2]) if len(words) == 3 else 100
     rng, total = random.Random(4), 0
-    for make in (accepted, damaged):
-        outcomes, differences = compare(programs, (make(rng) for _ in range(count)))
+    for name, make in makers.items():
+        outcomes, differences = compare(programs, (make(rng) for _ in range(count)), made)
         total += differences
-        print(f"{count} {make.__name__} plans: " + ", ".join(f"{number} {word}" for word, number in sorted(outcomes.items())))
+        print(f"{count} {name} {given}: " + ", ".join(f"{number} {word}" for word, number in sorted(outcomes.items())))
     for program in programs:
-        print(f"{program.path}: {program.seconds:.1f} s")
+        print(f"{program.command}: {program.seconds:.1f} s")
     print(f"{total} differences")
     return bool(total)
 

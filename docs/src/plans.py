@@ -1,7 +1,8 @@
 """Plans to try: document 01's own, plain ones, random ones from small to the largest, and three to time. A plan is a pair of a head and a row."""
 import random
+from fractions import Fraction
 
-from rules import CLAIMS, LARGEST, MONTHS, OPENING, SIZES, SURVIVE, Head, Question, S, largest_level
+from rules import CLAIMS, LARGEST, MONTHS, OPENING, SIZES, SURVIVE, Head, Question, S, all_months, largest_level
 
 # ---- Document 01's plans
 
@@ -114,10 +115,15 @@ def lasting_plan(rng, n, u, m):
     return Head(n, u, m), [rng.randrange(S // m) for _ in range(n)] + split(rng, m, 0) + [0]
 
 
-def geometric(m):
-    """The weights of source document 000, (4.2), with alpha = 3/4: rounded down, and over is what is missing."""
-    weights = [S * 3 ** (x - 1) // 4**x for x in range(1, m + 1)]
+def geometric(m, alpha=Fraction(3, 4)):
+    """The weights of source documents 000, (4.2), and 003, (3.2), for an exact alpha: rounded down, and over is what is missing."""
+    weights = [int((1 - alpha) * alpha ** (x - 1) * S) for x in range(1, m + 1)]
     return weights + [S - sum(weights)]
+
+
+def geometric_plan(head, alpha, chance):
+    """A plan with these weights, from the exact chances of the months, rounded down."""
+    return head, [int(chance(i) * S) for i in all_months(head)] + geometric(head.sizes, alpha)
 
 
 def long_plans(rng):

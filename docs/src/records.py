@@ -10,11 +10,19 @@ Its output has a line for each record but `row`: the refusal's number, the numbe
 is the bytes of `write` in hexadecimal and otherwise a checksum.
 
 `reports` and `tables` read plans one after another: two bytes with a plan's length, most significant first, and its bytes.
+
+`sheets` reads records of a kind (one byte), a room (two bytes, most significant first) and a sheet with its length, as those plans have theirs.
+`read` reads the sheet into a row of `room` numbers that each hold FULL_NUMBER; its line has the refusal's number, the head and the whole row after
+the call. `write` turns the sheet into plan bytes, in `room` bytes that each hold FULL_BYTE; its line has the refusal's number, the length and all
+lent bytes. `report` prints the reserve report of these plan bytes.
 """
 import itertools
+import math
 
-from rules import HEAD_BYTES, LARGEST, MOST_ASKED, PLACES, Head, ask_checks, bounds, claim_sum, count_row, down, failure_bounds, failure_checks
-from rules import plan_checks, plan_of, read_bytes, read_checks, refusal, row_length, up, workspace_needed, write_bytes, write_checks
+from rules import HEAD_BYTES, LARGEST, MOST_ASKED, PLACES, Head, ask_checks, bounds, byte_length, claim_sum, count_row, down, failure_bounds
+from rules import failure_checks, plan_checks, plan_of, read_bytes, read_checks, refusal, report, row_length, up, workspace_needed, write_bytes
+from rules import write_checks
+from sheets import made_bytes, made_plan, sheet_checks
 
 KINDS = ["row", "survive", "both", "high", "low", "count", "write", "read", "fails", "claims"]
 FULL_NUMBER = 2**32 - 1  # the largest number that a row or a workspace can hold
@@ -24,6 +32,10 @@ SPARE = 6  # numbers more than any call needs
 ROW = row_length(LARGEST) + SPARE
 WORKSPACE = workspace_needed(LARGEST, MOST_ASKED) + SPARE
 BYTES = 2560
+
+SHEET_KINDS = ["read", "write", "report"]
+FULL_BYTE = 255
+PLAN_BYTES = 1800  # the most that `sheets` lends; it has ROW numbers as well
 
 
 def plan_list(plans):
@@ -44,7 +56,7 @@ def rules_of(question):
 
 def fitting(needed, capacity):
     if needed > capacity:
-        raise ValueError(f"the program `vectors` has room for {capacity}, the record needs {needed}")
+        raise ValueError(f"the program has room for {capacity}, the record needs {needed}")
     return needed
 
 
@@ -113,3 +125,39 @@ class Calls:
         head, row = (Head(0, 0, 0), []) if number else (head, row)
         label = f"read {len(data)} bytes {data[:HEAD_BYTES].hex()}.. into a row of {room} holding {fill}"
         self.answers(label, number, *head, checksum(row + [fill] * (room - len(row))))
+
+
+class SheetCalls:
+    """The records of `sheets` and the text that each has to give."""
+
+    def __init__(self):
+        self.records, self.texts = [], []
+
+    def record(self, kind, data, room=0):
+        self.records.append(bytes([SHEET_KINDS.index(kind)]) + room.to_bytes(2, "big") + plan_list([data]))
+
+    def answers(self, *numbers):
+        self.texts.append(" ".join(map(str, numbers)) + "\n")
+
+    def read(self, data, room):
+        self.record("read", data, fitting(room, ROW))
+        number = refusal(sheet_checks(data, row_length, room))
+        head, row = (Head(0, 0, 0), []) if number else made_plan(data)
+        self.answers(number, *head, *row, *[FULL_NUMBER] * (room - len(row)))
+
+    def write(self, data, room):
+        self.record("write", data, fitting(room, PLAN_BYTES))
+        number = refusal(sheet_checks(data, byte_length, room))
+        plan = b"" if number else made_bytes(data)
+        self.answers(number, len(plan), *plan, *[FULL_BYTE] * (room - len(plan)))
+
+    def report(self, data, plan):
+        """Of a plan that was made without the sheet."""
+        self.record("report", data)
+        number = refusal(sheet_checks(data, byte_length, math.inf))
+        assert number == 0 and made_plan(data) == plan, (number, data.hex(), plan)
+        self.texts.append(report(write_bytes(*plan)))
+
+    def refused_report(self, data):
+        self.record("report", data)
+        self.texts.append(f"refused {refusal(sheet_checks(data, byte_length, math.inf))}\n")

@@ -13,21 +13,30 @@ Written from these documents and their sources alone, not from the engine or its
   reference.py plans DIR          three plans as large as can be, to time: DIR/none-empty (that plan), DIR/ten-filled, DIR/no-chance
   reference.py example DIR        DIR/stdin and DIR/stdout of the reserve report: document 01's example
   reference.py reports DIR        DIR/stdin and DIR/stdout of many reserve reports, the largest included: takes minutes
+  reference.py sheet KIND N U M FIRST STEP ALPHA
+                                  the bytes of a rule sheet on standard output, its doubles from decimal numbers, inf or nan
+  reference.py plan-of-sheet      a rule sheet on standard input, its plan bytes on standard output or its refusal on standard error
+  reference.py sheets DIR         DIR/stdin and DIR/stdout of the test program over rule sheets
+  reference.py sheet-example DIR  DIR/stdin and DIR/stdout of the program that turns a rule sheet into plan bytes
 """
 import math
+import struct
 import sys
 from pathlib import Path
 
 from cases import all_calls, repeated_calls, reported_bytes
 from plans import EXAMPLE_BYTES, EXAMPLE_TEXT, timed_plans
 from records import plan_list
-from rules import Head, Question, refusal, report, write_bytes, write_checks
+from rules import Head, Question, byte_length, refusal, report, write_bytes, write_checks
 from selftest import selftest
+from sheet_cases import EXAMPLE_SHEET, all_sheet_calls
+from sheets import made_bytes, sheet_checks, write_sheet
 
 
 def write_test(folder, stdin, stdout):
+    """What the program has to print is text or bytes."""
     Path(folder, "stdin").write_bytes(stdin)
-    Path(folder, "stdout").write_text(stdout)
+    Path(folder, "stdout").write_bytes(stdout if isinstance(stdout, bytes) else stdout.encode())
 
 
 def write_vectors(folder):
@@ -38,6 +47,11 @@ def write_vectors(folder):
 def write_reports(folder):
     plans = list(reported_bytes())
     write_test(folder, plan_list(plans), "".join(map(report, plans)))
+
+
+def write_sheets(folder):
+    calls = all_sheet_calls()
+    write_test(folder, b"".join(calls.records), "".join(calls.texts))
 
 
 def print_cases():
@@ -63,6 +77,19 @@ def print_plan(n, u, m, *row):
     sys.stdout.buffer.write(write_bytes(Head(n, u, m), row))
 
 
+def print_plan_of_sheet(data):
+    """A refused sheet is an answer, too: compare.py takes an exit status other than 0 for a program that failed."""
+    number = refusal(sheet_checks(data, byte_length, math.inf))
+    if number:
+        print(f"refused {number}", file=sys.stderr)
+    else:
+        sys.stdout.buffer.write(made_bytes(data))
+
+
+def print_sheet(kind, n, u, m, *doubles):
+    sys.stdout.buffer.write(struct.pack(">BBBH3d", int(kind), int(n), int(u), int(m), *map(float, doubles)))
+
+
 def main(words):
     match words:
         case ["selftest"]:
@@ -83,6 +110,15 @@ def main(words):
             write_test(folder, EXAMPLE_BYTES, EXAMPLE_TEXT)
         case ["reports", folder]:
             write_reports(folder)
+        case ["sheet", kind, n, u, m, first, step, alpha]:
+            print_sheet(*words[1:])
+        case ["plan-of-sheet"]:
+            print_plan_of_sheet(sys.stdin.buffer.read())
+        case ["sheets", folder]:
+            write_sheets(folder)
+        case ["sheet-example", folder]:
+            data = write_sheet(EXAMPLE_SHEET)
+            write_test(folder, data, made_bytes(data))
         case _:
             sys.exit(__doc__)
     return 0

@@ -91,10 +91,14 @@ def head_checks(head):
     yield 4, head.sizes == 0 or head.sizes > SIZES
 
 
+def tail_checks(head, row):
+    yield 9, row[-1] > 0 and head.sizes + 1 < largest_level(head)
+
+
 def row_checks(head, row):
     yield 7, any(x > S for x in row)
     yield 8, sum(row[head.months :]) != S
-    yield 9, row[-1] > 0 and head.sizes + 1 < largest_level(head)
+    yield from tail_checks(head, row)
 
 
 def plan_checks(head, row):

@@ -1,15 +1,22 @@
-"""The rules held against the exact chances, the funds worked by hand and the paper's report."""
+"""The rules held against the exact chances, the funds worked by hand and the paper's report; those of rule sheets against Python's floats."""
 import itertools
 import math
+import operator
 import random
+import struct
 from fractions import Fraction
 
 from exact import carried_counts, carried_failures, carried_weight, claim_chance, count_weight, encloses, failure_weight, first_claim_both
 from exact import first_claim_survival, keeps_gap, outcomes, question_weight
-from plans import EXAMPLE, EXAMPLE_BYTES, EXAMPLE_TEXT, WORKED, flat, gapped, lasting_plan, questions, some_chance, some_plan, split, timed_plans
-from rules import CLAIMS, LARGEST, MONTHS, MOST_ASKED, PLACES, S, SIZES, SURVIVE, Question, all_months, ask_checks, bounds, byte_length
-from rules import claim_sum, count_row, down, failure_bounds, failure_checks, failure_rule, largest_level, month_rule, plan_of
-from rules import read_bytes, refusal, report, totals, unrounded, up, workspace_needed, write_bytes
+from plans import EXAMPLE, EXAMPLE_BYTES, EXAMPLE_TEXT, WORKED, flat, gapped, geometric_plan, lasting_plan, questions, some_chance, some_plan
+from plans import split, timed_plans
+from rules import CLAIMS, LARGEST, MONTHS, MOST_ASKED, OPENING, PLACES, S, SIZES, SURVIVE, Head, Question, all_months, ask_checks, bounds
+from rules import byte_length, claim_sum, count_row, down, failure_bounds, failure_checks, failure_rule, largest_level, month_rule, plan_checks
+from rules import plan_of, read_bytes, refusal, report, row_length, totals, unrounded, up, workspace_needed, write_bytes
+from sheet_cases import DOUBLES, EXAMPLE_SHEET, HALF, INFINITE, LEVEL, LONE, NANS, NO_TAIL, ONE, RAMP, WORKED_SHEETS, accepted, brief_head
+from sheet_cases import decimal_ramps, some_share, some_sheet, telling_ramps, with_double
+from sheets import LEVEL_KIND, SHEET_BYTES, SIGN, claim_weights, finite, head_of, last_place, made_plan, parts, pattern, plan_row, plus, power
+from sheets import read_sheet, rounded, sheet_checks, times, value, write_sheet
 
 
 class Tally:
@@ -151,10 +158,148 @@ def check_paper(tally):
     tally.check("largest workspace", largest == 64200, f"{largest} bytes")
 
 
+# ---- Rule sheets
+
+
+def float_of(bits):
+    return struct.unpack(">d", bits.to_bytes(8, "big"))[0]
+
+
+def same_double(x, other):
+    """A double of sheets.py and one of Python's."""
+    return x == Fraction(other) if math.isfinite(other) else x == other or math.isnan(x) and math.isnan(other)
+
+
+def some_double(rng):
+    return rng.choice([0, SIGN]) + rng.randrange(INFINITE)
+
+
+def some_odd(rng, exponent):
+    return pattern((2 * rng.getrandbits(26) + 1) * power(exponent))
+
+
+def double_pairs(rng):
+    """Any two; two that are close; a double and half of its last digit; odd numbers of 27 digits, whose product may be halfway between two doubles,
+    from the least to past the largest."""
+    yield from itertools.product(DOUBLES, repeat=2)
+    for _ in range(2000):
+        bits, sign = some_double(rng), rng.choice([0, SIGN])
+        yield bits, some_double(rng)
+        yield bits, sign + bits % SIGN ^ rng.getrandbits(rng.randrange(53))
+        yield bits, sign + pattern(rng.choice([1, 3, 5]) * power(last_place(value(bits)) - 1))
+        for exponent in (-550, -540, -20, 485):
+            yield some_odd(rng, exponent + rng.randrange(9)), sign + some_odd(rng, exponent - rng.randrange(9))
+
+
+def check_doubles(tally, rng):
+    for bits, other in double_pairs(rng):
+        x, y, about = value(bits), value(other), (hex(bits), hex(other))
+        p, q = float_of(bits), float_of(other)
+        tally.check("doubles: value of the bits", same_double(x, p), about)
+        if finite(x):
+            tally.check("doubles: bits there and back", pattern(x) == bits or bits == SIGN, about)
+            tally.check("doubles: parts", parts(x) == math.floor(Fraction(p) * 2**30), about)
+        if finite(x) and finite(y):
+            tally.check("doubles: sum", same_double(plus(x, y), p + q), about)
+            tally.check("doubles: difference", same_double(plus(x, -y), p - q), about)
+            tally.check("doubles: product", same_double(times(x, y), p * q), about)
+
+
+def float_row(sheet):
+    """The row of an accepted sheet in Python's floats, whose product with 2^30 is exact."""
+    first, step, alpha = map(float_of, sheet[-3:])
+    chances = [first if sheet.kind == LEVEL_KIND else first + (i - 1) * step for i in all_months(head_of(sheet))]
+    weights = itertools.accumulate(itertools.repeat(alpha, sheet.sizes - 1), operator.mul, initial=1 - alpha)
+    row = [math.floor(x * 2.0**30) for x in (*chances, *weights)]
+    return row + [S - sum(row[sheet.months :])]
+
+
+def check_sheet(tally, sheet):
+    """One that may be refused."""
+    data = write_sheet(sheet)
+    tally.check("sheets: bytes there and back", read_sheet(data) == sheet == struct.unpack(">BBBHQQQ", data), sheet)
+    if accepted(sheet):
+        tally.check("sheets: the row in floats", plan_row(sheet) == float_row(sheet), sheet)
+        tally.check("sheets: an accepted one makes an accepted plan", refusal(plan_checks(*made_plan(data))) == 0, sheet)
+
+
+def check_sheet_plan(tally, name, data, plan):
+    number = refusal(sheet_checks(data, row_length, math.inf))
+    tally.check(name, number == 0 and made_plan(data) == plan, (data.hex(), number, plan))
+
+
+SHEET_NUMBERS = [  # by document 02, 0 where the sheet is accepted
+    (LEVEL, 0),
+    (RAMP, 0),
+    (RAMP._replace(kind=0), 12),
+    (RAMP._replace(kind=3), 12),
+    (RAMP._replace(kind=0, months=MONTHS + 1), 12),
+    (NO_TAIL._replace(months=MONTHS, step=0), 0),
+    (NO_TAIL._replace(months=MONTHS + 1, step=0), 2),
+    (RAMP._replace(months=MONTHS + 1, opening=OPENING + 1), 2),
+    (NO_TAIL._replace(opening=OPENING), 0),
+    (NO_TAIL._replace(opening=OPENING + 1), 3),
+    (RAMP._replace(opening=OPENING + 1, sizes=0), 3),
+    (RAMP._replace(sizes=SIZES), 0),
+    (RAMP._replace(sizes=SIZES + 1), 4),
+    (RAMP._replace(sizes=0, alpha=ONE), 4),
+    *((RAMP._replace(**{place: bits}), 13) for place in ("first", "step", "alpha") for bits in (INFINITE, SIGN + INFINITE, *NANS)),
+    *((RAMP._replace(months=0, first=bits, step=bits), 0) for bits in (INFINITE - 1, SIGN + INFINITE - 1)),
+    (RAMP._replace(months=0, first=INFINITE), 13),
+    (LEVEL._replace(months=0, step=INFINITE), 13),
+    *((LEVEL._replace(alpha=bits), number) for bits, number in ((0, 0), (SIGN, 0), (SIGN + 1, 13), (ONE - 1, 0), (ONE, 13), (ONE + 1, 13))),
+    *((LEVEL._replace(step=bits), number) for bits, number in ((0, 0), (SIGN, 0), (1, 13), (SIGN + 1, 13), (ONE, 13))),
+    *((LEVEL._replace(first=bits), number) for bits, number in ((0, 0), (SIGN, 0), (SIGN + 1, 13), (ONE, 0), (ONE + 1, 13))),
+    *((RAMP._replace(months=n, first=HALF, step=HALF), number) for n, number in ((0, 0), (1, 0), (2, 0), (3, 13))),
+    *((RAMP._replace(months=n, first=HALF, step=SIGN + HALF), number) for n, number in ((1, 0), (2, 0), (3, 13))),
+    (RAMP._replace(months=2, first=SIGN + HALF, step=HALF), 13),
+    (RAMP._replace(months=2, first=ONE + 1, step=SIGN + HALF), 13),
+    (RAMP._replace(opening=RAMP.opening + 1), 9),
+    (RAMP._replace(opening=RAMP.opening + 1, alpha=ONE), 13),
+    (RAMP._replace(opening=RAMP.opening + 1, alpha=0), 0),
+]
+
+
+def check_sheet_numbers(tally):
+    for sheet, number in SHEET_NUMBERS:
+        for needed in (row_length, byte_length):
+            got = [refusal(sheet_checks(write_sheet(sheet), needed, room)) for room in (math.inf, 0)]
+            tally.check("sheets: refusals", got == [number, number or 11], (sheet, got, number))
+    for length in (*range(SHEET_BYTES), SHEET_BYTES + 1, 2 * SHEET_BYTES):
+        tally.check("sheets: lengths", refusal(sheet_checks(bytes(length), row_length, 0)) == 5, length)
+    for sheet, needed in itertools.product((LEVEL, RAMP, LONE), (row_length, byte_length)):
+        enough = needed(head_of(sheet))
+        got = [refusal(sheet_checks(write_sheet(sheet), needed, room)) for room in (0, enough - 1, enough, enough + 1)]
+        tally.check("sheets: rooms", got == [11, 11, 0, 0], (sheet, got))
+
+
+def check_many_sheets(tally, rng):
+    entries = itertools.chain(telling_ramps(rng), decimal_ramps(), *map(with_double, DOUBLES))
+    sheets = (some_sheet(rng, brief_head(rng)) for _ in range(300))
+    for sheet in (*(entry.sheet for entry in entries), *sheets, *(some_sheet(rng, LARGEST) for _ in range(10))):
+        check_sheet(tally, sheet)
+    alphas = *map(value, DOUBLES), *(rounded(some_share(rng)) for _ in range(1000))
+    for alpha in alphas:
+        if finite(alpha) and 0 <= alpha < 1:
+            tally.check("sheets: weights do not pass S", sum(map(parts, claim_weights(alpha, SIZES))) <= S, alpha)
+
+
+def check_sheets(tally, rng):
+    check_doubles(tally, rng)
+    for text, head, row in WORKED_SHEETS:
+        check_sheet_plan(tally, "sheets worked by hand", bytes.fromhex(text), (head, row))
+    case = geometric_plan(Head(12, 5, 20), Fraction(9, 10), lambda i: Fraction(i, 100))
+    check_sheet_plan(tally, "sheet of source document 003's case 1", write_sheet(EXAMPLE_SHEET), case)
+    check_sheet_numbers(tally)
+    if not tally.failed:  # a wrong rule may accept too few sheets to find some, or too many to make their plans
+        check_many_sheets(tally, rng)
+
+
 def selftest():
     """Whether a check failed."""
     tally, rng, own = Tally(), random.Random(2), random.Random(6)  # the claim sums have random numbers of their own
     check_paper(tally)
+    check_sheets(tally, random.Random(9))
     for weights in claim_tables(own):
         check_claim_sums(tally, own, weights)
     for _ in range(300):

@@ -13,8 +13,9 @@ import sys
 from fractions import Fraction
 from pathlib import Path
 
+from plans import geometric_plan
 from records import plan_list
-from rules import Head, S, write_bytes
+from rules import Head, write_bytes
 
 # Table 1: the chance of a claim in month i
 CASES = {
@@ -44,18 +45,11 @@ FIGURES = {
 }
 
 
-def plan_bytes(n, u, alpha, chance):
-    m = u + n
-    weights = [int((1 - alpha) * alpha ** (x - 1) * S) for x in range(1, m + 1)]
-    row = [int(chance(i) * S) for i in range(1, n + 1)] + weights + [S - sum(weights)]
-    return write_bytes(Head(n, u, m), row)
-
-
 def main(folder):
     plans, lines = [], ""
     for (u, alpha, case), figures in FIGURES.items():
         for n, figure in enumerate(figures, 1):
-            plans.append(plan_bytes(n, u, alpha, CASES[case]))
+            plans.append(write_bytes(*geometric_plan(Head(n, u, u + n), alpha, CASES[case])))
             lines += f"{figure} {figure}\n"
     (folder / "stdin").write_bytes(plan_list(plans))
     (folder / "stdout").write_text(lines)

@@ -1,4 +1,4 @@
--- What the two calls answer and leave, where nothing is refused and where something is.
+-- What a call that may refuse answers and leaves, where nothing is refused and where something is.
 use Prim.Native.Nat.{ℕ, zero, suc}
 use mathlib.Core.Path.{_≡_, refl}
 use mathlib.Core.Bool.{cond}
@@ -6,14 +6,11 @@ use mathlib.Core.List.{List, _++_}
 use native.Mathlib.Omega.{arith}
 use borrow.Author.Tests.{eq-eqb, ne-eqb}
 use lib.Dec.{eqb}
-use lib.ListN.{length, drop}
+use lib.ListN.{drop}
 use Rattle.model.specs.declared.Head.{Head}
-use Rattle.model.specs.Plan.{row-length}
-use Rattle.model.specs.Format.{byte-length, bytes-of, head-of, row-of}
-use Rattle.model.specs.Refusal.{read-refusal, write-refusal}
 use Rattle.codec.specs.declared.ReadAnswer.{ReadAnswer}
 use Rattle.codec.specs.declared.WriteAnswer.{WriteAnswer}
-use Rattle.codec.specs.Answers.{no-head, read-answer, row-after, write-answer, bytes-after}
+use Rattle.codec.specs.Answers.{no-head, head-answer, length-answer, filled-after}
 
 abbrev pub read-as : ℕ → Head → ReadAnswer
 read-as n h = record { refusal = n; head = h }
@@ -34,48 +31,37 @@ module _ {A : Type 0} where
   same-number number zero x y of-x of-y = of-x
   same-number number (suc n) x y of-x of-y = rw (ne-eqb (suc n) 0 (λ z. omega (arith, z))) of-y
 
-module _ (bytes : List ℕ) (room : ℕ) where
-  pub reads : read-refusal bytes room ≡ 0 → read-answer bytes room ≡ read-as 0 (head-of bytes)
-  unfolding read-answer
-  reads none = when-none _ _ _ none
+module _ (n : ℕ) (h : Head) where
+  pub head-answered : n ≡ 0 → head-answer n h ≡ read-as 0 h
+  unfolding head-answer
+  head-answered none = when-none _ _ _ none
 
-  pub read-refused : (read-refusal bytes room ≡ 0 → ⊥) → read-answer bytes room ≡ read-as (read-refusal bytes room) no-head
-  unfolding read-answer
-  read-refused refused = when-refused _ _ _ refused
+  pub head-refused : (n ≡ 0 → ⊥) → head-answer n h ≡ read-as n no-head
+  unfolding head-answer
+  head-refused refused = when-refused _ _ _ refused
 
-  pub read-number : read-answer bytes room .refusal ≡ read-refusal bytes room
-  unfolding read-answer
-  read-number = same-number (λ (a : ReadAnswer). a .refusal) _ _ _ refl refl
+  pub head-number : head-answer n h .refusal ≡ n
+  unfolding head-answer
+  head-number = same-number (λ (a : ReadAnswer). a .refusal) _ _ _ refl refl
 
-module _ (bytes row : List ℕ) where
-  pub reads-row :
-      read-refusal bytes (length row) ≡ 0 → row-after bytes row ≡ row-of bytes ++ drop (row-length (head-of bytes)) row
-  unfolding row-after
-  reads-row none = when-none _ _ _ none
+module _ (n bytes : ℕ) where
+  pub length-answered : n ≡ 0 → length-answer n bytes ≡ written-as 0 bytes
+  unfolding length-answer
+  length-answered none = when-none _ _ _ none
 
-  pub row-kept : (read-refusal bytes (length row) ≡ 0 → ⊥) → row-after bytes row ≡ row
-  unfolding row-after
-  row-kept refused = when-refused _ _ _ refused
+  pub length-refused : (n ≡ 0 → ⊥) → length-answer n bytes ≡ written-as n 0
+  unfolding length-answer
+  length-refused refused = when-refused _ _ _ refused
 
-module _ (h : Head) (row : List ℕ) (room : ℕ) where
-  pub writes : write-refusal h row room ≡ 0 → write-answer h row room ≡ written-as 0 (byte-length h)
-  unfolding write-answer
-  writes none = when-none _ _ _ none
+  pub length-number : length-answer n bytes .refusal ≡ n
+  unfolding length-answer
+  length-number = same-number (λ (a : WriteAnswer). a .refusal) _ _ _ refl refl
 
-  pub write-refused : (write-refusal h row room ≡ 0 → ⊥) → write-answer h row room ≡ written-as (write-refusal h row room) 0
-  unfolding write-answer
-  write-refused refused = when-refused _ _ _ refused
+module _ (n needed : ℕ) (new lent : List ℕ) where
+  pub filled : n ≡ 0 → filled-after n needed new lent ≡ new ++ drop needed lent
+  unfolding filled-after
+  filled none = when-none _ _ _ none
 
-  pub write-number : write-answer h row room .refusal ≡ write-refusal h row room
-  unfolding write-answer
-  write-number = same-number (λ (a : WriteAnswer). a .refusal) _ _ _ refl refl
-
-module _ (h : Head) (row bytes : List ℕ) where
-  pub writes-bytes :
-      write-refusal h row (length bytes) ≡ 0 → bytes-after h row bytes ≡ bytes-of h row ++ drop (byte-length h) bytes
-  unfolding bytes-after
-  writes-bytes none = when-none _ _ _ none
-
-  pub bytes-kept : (write-refusal h row (length bytes) ≡ 0 → ⊥) → bytes-after h row bytes ≡ bytes
-  unfolding bytes-after
-  bytes-kept refused = when-refused _ _ _ refused
+  pub kept : (n ≡ 0 → ⊥) → filled-after n needed new lent ≡ lent
+  unfolding filled-after
+  kept refused = when-refused _ _ _ refused

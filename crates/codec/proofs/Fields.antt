@@ -1,6 +1,6 @@
 -- Bits as a list and by position, at any width: bytes are fields of 8 bits and a row is fields of 31, so each law serves reading and writing.
 use Prim.Native.Nat.{ℕ, zero, suc, _+_, _*_, _-_, _/_, _%_, _^_, _<_, _≤_}
-use mathlib.Core.Path.{_≡_, refl, sym, ap, ap₂, _∙_}
+use mathlib.Core.Path.{_≡_, refl, sym, ap, ap₂, _∙_, fun-ext}
 use mathlib.Core.List.{List, [], _∷_, _++_, flatMap, append-assoc}
 use native.Mathlib.Nat.{lt-of-lt-of-le, pow-suc, pow-succ', mul-assoc, zero-div, mod-lt, mod-eq-of-lt, mod-one, mul-suc, div-add-mod}
 use native.Mathlib.Numerals.{add-one}
@@ -10,6 +10,7 @@ use lib.Arith.{digits-lt, digits-div, digits-mod, mod-mul}
 use lib.Pow.{pow-pos, pow-mono}
 use lib.ListN.{length, getD, take, drop, set, length-append, length-set, length-take, length-drop, List·getD-append}
 use lib.Seq.{take-all, take-at, take-suc, take-suc-set, take-add, drop-at, drop-drop, getD-drop, getD-append-add, length-take-le}
+use Rattle.model.specs.CountRow.{tabulate}
 use Rattle.model.specs.Format.{bits, number, fields}
 
 -- The elements of a list of bits are 0 or 1; past its end stands 0.
@@ -157,16 +158,16 @@ unfolding fields
 length-fields w zero bs = refl
 length-fields w (suc n) bs = ap suc (length-fields w n (drop w bs))
 
--- one more field at the end
-fields-snoc : (w n : ℕ) (bs : List ℕ) → fields w (suc n) bs ≡ fields w n bs ++ number (take w (drop (w * n) bs)) ∷ []
-unfolding fields
-fields-snoc w zero bs =
-    let start : 0 ≡ w * 0 = omega arith in
-    ap (λ n. number (take w (drop n bs)) ∷ []) start
-fields-snoc w (suc n) bs =
-    let later : w + w * n ≡ w * suc n = omega (arith, mul-suc w n) in
-    let there : drop (w * n) (drop w bs) ≡ drop (w * suc n) bs = drop-drop (w * n) w bs ∙ ap (λ k. drop k bs) later in
-    ap (λ l. number (take w bs) ∷ l) (fields-snoc w n (drop w bs) ∙ ap (λ l. fields w n (drop w bs) ++ number (take w l) ∷ []) there)
+-- fields by their places
+pub fields-are : (w n : ℕ) (bs : List ℕ) → tabulate n (λ k. number (take w (drop (w * k) bs))) ≡ fields w n bs
+unfolding fields tabulate
+fields-are w zero bs = refl
+fields-are w (suc n) bs =
+    let start : w * 0 ≡ 0 = omega arith in
+    let later : (k : ℕ) → w * suc k ≡ w + w * k = λ k. omega (arith, mul-suc w k) in
+    ap₂ _∷_
+    (ap (λ k. number (take w (drop k bs))) start)
+    (ap (tabulate n) (fun-ext (λ k. ap (λ l. number (take w l)) (ap (λ i. drop i bs) (later k) ∙ sym (drop-drop (w * k) w bs)))) ∙ fields-are w n (drop w bs))
 
 -- fields of bits, taken apart again
 pub flat-fields : (w n : ℕ) (bs : List ℕ) → w * n ≤ length bs → Bits bs → flatMap (bits w) (fields w n bs) ≡ take (w * n) bs
@@ -207,29 +208,3 @@ module _
 
     pub field-fits : (w : ℕ) → Bits bs → k < w → x * 2 + b < 2 ^ w
     field-fits w h short = rw field-next (number-fits bs o (k + 1) w h (omega arith))
-
--- A list that is filled with fields from its start on: the first i of them are stored.
-pub record Filling (w : ℕ) (bs start dst : List ℕ) (i : ℕ) : Type 0 where
-  pub within : i ≤ length start
-  pub same : length dst ≡ length start
-  pub stored : take i dst ≡ fields w i bs
-
-module _ (w : ℕ) (bs start : List ℕ) where
-  pub filling-none : Filling w bs start start 0
-  unfolding fields
-  filling-none = record { within = omega arith; same = refl; stored = refl }
-
-  module _ (dst : List ℕ) (i : ℕ) (before : Filling w bs start dst i) where
-    pub filling-more :
-        (v : ℕ) → i < length dst → v ≡ number (take w (drop (w * i) bs)) → Filling w bs start (set dst i v) (i + 1)
-    filling-more v inside is =
-        record {
-          within = omega arith;
-          same = length-set dst i v ∙ before .same;
-          stored = rw (add-one, take-suc-set dst i v inside, before .stored, is) (sym (fields-snoc w i bs));
-        }
-
-    pub filling-done : length dst ≤ i → dst ≡ fields w (length start) bs
-    filling-done all =
-        let whole : i ≡ length start = omega (arith, before .within, before .same) in
-        sym (take-all i dst all) ∙ before .stored ∙ ap (λ n. fields w n bs) whole

@@ -14,7 +14,7 @@ use Rattle.model.specs.Format.{bits-of, head-of, row-of, fill-of}
 use Rattle.model.specs.Refusal.{first, head-checks, number-checks, tail-survivable, Accepted, plan-refusal, read-refusal, write-refusal}
 use Rattle.codec.specs.Answers.{read-answer, row-after, write-answer, bytes-after}
 use Rattle.codec.proofs.RefusalLaws.{Readable, readable, accepts, row-is, write-room}
-use Rattle.codec.proofs.Answered.{read-as, written-as, reads, reads-row, writes, writes-bytes}
+use Rattle.codec.proofs.Answered.{read-as, written-as, head-answered, length-answered, filled}
 
 -- Bytes are read, with 0, as a head and a row, and these are written, with 0, as the bytes, whatever memory is lent that is long enough.
 pub record StandFor (bytes : List ℕ) (h : Head) (row : List ℕ) : Type 0 where
@@ -62,13 +62,13 @@ module _
     stand-for : StandFor bytes h row
     stand-for =
         record {
-          read = λ lent enough. reads bytes (length lent) (read-none lent enough) ∙ ap (read-as 0) head-is;
+          read = λ lent enough. head-answered _ (head-of bytes) (read-none lent enough) ∙ ap (read-as 0) head-is;
           row-read = λ lent enough.
-              reads-row bytes lent (read-none lent enough)
+              filled _ (row-length (head-of bytes)) (row-of bytes) lent (read-none lent enough)
               ∙ ap₂ (λ l n. l ++ drop n lent) row-of-is (ap row-length head-is ∙ count-is);
-          written = λ lent enough. writes h row (length lent) (write-none lent enough) ∙ ap (written-as 0) length-is;
+          written = λ lent enough. length-answered _ (byte-length h) (write-none lent enough) ∙ ap (written-as 0) length-is;
           bytes-written = λ lent enough.
-              writes-bytes h row lent (write-none lent enough) ∙ ap₂ (λ l n. l ++ drop n lent) bytes-are length-is;
+              filled _ (byte-length h) (bytes-of h row) lent (write-none lent enough) ∙ ap₂ (λ l n. l ++ drop n lent) bytes-are length-is;
         }
 
 -- "the bytes (hexadecimal) 04 02 02 40 00 00 00 80 00 00 01 00 00 00 02 00 00 00 00 00 00 00 00"

@@ -15,26 +15,28 @@ use Rattle.model.specs.Refusal.{read-refusal, write-refusal}
 unfoldable pub no-head : Head
 no-head = record { months = 0; opening = 0; sizes = 0 }
 
--- the answer to reading bytes, with a lent row of the given length
-unfoldable pub read-answer : List ℕ → ℕ → ReadAnswer
-read-answer bytes room =
-    cond (eqb (read-refusal bytes room) 0)
-    (record { refusal = 0; head = head-of bytes })
-    (record { refusal = read-refusal bytes room; head = no-head })
+-- a call that answers a head
+unfoldable pub head-answer : ℕ → Head → ReadAnswer
+head-answer refusal h = cond (eqb refusal 0) (record { refusal = 0; head = h }) (record { refusal = refusal; head = no-head })
 
--- the lent row after it
-unfoldable pub row-after : List ℕ → List ℕ → List ℕ
-row-after bytes row =
-    cond (eqb (read-refusal bytes (length row)) 0) (row-of bytes ++ drop (row-length (head-of bytes)) row) row
+-- a call that answers a length
+unfoldable pub length-answer : ℕ → ℕ → WriteAnswer
+length-answer refusal n = cond (eqb refusal 0) (record { refusal = 0; length = n }) (record { refusal = refusal; length = 0 })
 
--- the answer to writing a head and a row, with lent bytes of the given length
-unfoldable pub write-answer : Head → List ℕ → ℕ → WriteAnswer
-write-answer h row room =
-    cond (eqb (write-refusal h row room) 0)
-    (record { refusal = 0; length = byte-length h })
-    (record { refusal = write-refusal h row room; length = 0 })
+-- lent memory after a call that fills the needed part of it
+unfoldable pub filled-after : ℕ → ℕ → List ℕ → List ℕ → List ℕ
+filled-after refusal needed new lent = cond (eqb refusal 0) (new ++ drop needed lent) lent
 
--- the lent bytes after it
-unfoldable pub bytes-after : Head → List ℕ → List ℕ → List ℕ
-bytes-after h row bytes =
-    cond (eqb (write-refusal h row (length bytes)) 0) (bytes-of h row ++ drop (byte-length h) bytes) bytes
+-- the answer to reading bytes, with a lent row of the given length, and the lent row after it
+abbrev pub read-answer : List ℕ → ℕ → ReadAnswer
+read-answer bytes room = head-answer (read-refusal bytes room) (head-of bytes)
+
+abbrev pub row-after : List ℕ → List ℕ → List ℕ
+row-after bytes row = filled-after (read-refusal bytes (length row)) (row-length (head-of bytes)) (row-of bytes) row
+
+-- the answer to writing a head and a row, with lent bytes of the given length, and the lent bytes after it
+abbrev pub write-answer : Head → List ℕ → ℕ → WriteAnswer
+write-answer h row room = length-answer (write-refusal h row room) (byte-length h)
+
+abbrev pub bytes-after : Head → List ℕ → List ℕ → List ℕ
+bytes-after h row bytes = filled-after (write-refusal h row (length bytes)) (byte-length h) (bytes-of h row) bytes

@@ -11,6 +11,7 @@ pub mod Unrounded
 pub mod FirstRuin
 pub mod Questions
 pub mod Counts
+pub mod Filling
 pub mod FirstClaimLaw
 pub mod Tail
 pub mod Theorems

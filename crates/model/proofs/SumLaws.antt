@@ -8,7 +8,8 @@ use native.Mathlib.Omega.{arith}
 use lib.ListN.{length, drop}
 use lib.Dec.{ltb}
 use borrow.Author.Tests.{lt-ltb}
-use Rattle.model.specs.Sums.{sum, product, one-to, total, count}
+use mathlib.Core.Bool.{Bool, true, false, _||_}
+use Rattle.model.specs.Sums.{sum, product, one-to, total, count, any}
 use Rattle.model.specs.Plan.{nth}
 
 -- terms that agree have equal sums
@@ -129,3 +130,43 @@ pub below-or-not : (s n : ℕ) → (s < n) ⊎ (n ≤ s)
 below-or-not s zero = inr zero-le
 below-or-not zero (suc n) = inl (omega arith)
 below-or-not (suc s) (suc n) = ⊎-elim (λ l. inl (suc-le-suc l)) (λ l. inr (suc-le-suc l)) (below-or-not s n)
+
+-- a test of some element, of what a function makes of a list and of two lists
+pub any-map : (test : ℕ → Bool) (f : ℕ → ℕ) (xs : List ℕ) → any test (map f xs) ≡ any (λ x. test (f x)) xs
+unfolding any
+any-map test f [] = refl
+any-map test f (x ∷ xs) = ap (λ (b : Bool). test (f x) || b) (any-map test f xs)
+
+pub none-append : (test : ℕ → Bool) (xs ys : List ℕ) → any test xs ≡ false → any test ys ≡ false → any test (xs ++ ys) ≡ false
+unfolding any
+none-append test [] ys e later = later
+none-append test (x ∷ xs) ys e later = go (test x) e (none-append test xs ys)
+  where
+    go : (b : Bool) → b || any test xs ≡ false → (any test xs ≡ false → any test ys ≡ false → any test (xs ++ ys) ≡ false) → b || any test (xs ++ ys) ≡ false
+    go true e h = e
+    go false e h = h e later
+
+-- a test of some number from 1 to n
+
+pub none-to : (n : ℕ) (test : ℕ → Bool) → ((i : ℕ) → i < n → test (suc i) ≡ false) → any test (one-to n) ≡ false
+unfolding any one-to
+none-to zero test h = refl
+none-to (suc n) test h =
+    rw (h 0 (omega arith)) (any-map test suc (one-to n) ∙ none-to n (λ x. test (suc x)) (λ i l. h (suc i) (omega arith)))
+
+pub some-to : (n : ℕ) (test : ℕ → Bool) (i : ℕ) → i < n → test (suc i) ≡ true → any test (one-to n) ≡ true
+unfolding any one-to
+some-to zero test i l e = absurd (omega arith)
+some-to (suc n) test zero l e = rw e
+some-to (suc n) test (suc i) l e = or-true (test 1) (any-map test suc (one-to n) ∙ some-to n (λ x. test (suc x)) i (omega arith) e)
+  where
+    or-true : (a : Bool) {b : Bool} → b ≡ true → a || b ≡ true
+    or-true true h = refl
+    or-true false h = h
+
+pub none-at : (n : ℕ) (test : ℕ → Bool) → any test (one-to n) ≡ false → (i : ℕ) → i < n → test (suc i) ≡ false
+none-at n test e i l = go (test (suc i)) (some-to n test i l)
+  where
+    go : (b : Bool) → (b ≡ true → any test (one-to n) ≡ true) → b ≡ false
+    go true h = sym (h refl) ∙ e
+    go false h = refl

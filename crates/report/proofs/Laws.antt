@@ -10,7 +10,7 @@ use Rattle.model.specs.Plan.{row-length}
 use Rattle.model.specs.Format.{head-of, row-of}
 use Rattle.model.specs.Refusal.{read-refusal}
 use Rattle.codec.specs.Answers.{row-after}
-use Rattle.codec.proofs.Answered.{reads-row}
+use Rattle.codec.proofs.Answered.{filled}
 use Rattle.codec.proofs.RefusalLaws.{row-is}
 use Rattle.report.specs.Report.{refused-line, plan-report, report-of}
 
@@ -26,4 +26,4 @@ report-refused bytes refused = rw (ne-eqb _ 0 refused)
 -- what reading leaves in the row is the plan's row, and the rest
 pub row-read :
     (bytes row : List ℕ) → read-refusal bytes (length row) ≡ 0 → take (row-length (head-of bytes)) (row-after bytes row) ≡ row-of bytes
-row-read bytes row none = rw (reads-row bytes row none) (take-at (row-of bytes) _ _ (row-is bytes))
+row-read bytes row none = rw (filled _ (row-length (head-of bytes)) (row-of bytes) row none) (take-at (row-of bytes) _ _ (row-is bytes))

@@ -12,7 +12,7 @@ use Rattle.model.specs.Refusal.{HeadAccepted, read-refusal}
 use Rattle.model.proofs.Facts.{head-facts}
 use Rattle.codec.specs.Answers.{no-head}
 use Rattle.codec.proofs.RefusalLaws.{Readable, readable, row-inside}
-use Rattle.codec.proofs.Answered.{read-as, reads, reads-row, read-refused, row-kept}
+use Rattle.codec.proofs.Answered.{read-as, head-answered, head-refused, filled, kept}
 use Rattle.codec.proofs.read.Statement.{statement}
 use Rattle.codec.proofs.read.Tie as tie
 
@@ -42,7 +42,7 @@ refused c e = c .if1 .taken (c .before .refusal .ensures ∙ e)
 returns : tie.Need-returns
 unfolding no-head
 returns c =
-    (ap (λ n. read-as n no-head) (c .before .refusal .ensures) ∙ sym (read-refused _ _ (refused c)), sym (row-kept _ _ (refused c)))
+    (ap (λ n. read-as n no-head) (c .before .refusal .ensures) ∙ sym (head-refused _ _ (refused c)), sym (kept _ _ _ _ (refused c)))
 
 known : (c : tie.Else1) → Readable (bytes-at (checked c)) (length (row-at (checked c)))
 known c = readable _ _ (none c)
@@ -97,9 +97,9 @@ returns-2 : tie.Need-returns-2
 returns-2 c =
     let at-count = measured (lent (stored c)) in
     let at-head = head-read at-count in (
-      ap₂ read-as (passed at-head .if1 .left) (at-head .head-of .ensures) ∙ sym (reads _ _ (none (passed at-head))),
+      ap₂ read-as (passed at-head .if1 .left) (at-head .head-of .ensures) ∙ sym (head-answered _ _ (none (passed at-head))),
       ap₂ (λ l n. l ++ drop n (row-at (refusal-at at-count))) (decoded (stored c)) (count-is at-count)
-          ∙ sym (reads-row _ _ (none (passed at-head))),
+          ∙ sym (filled _ _ _ _ (none (passed at-head))),
     )
 
 decode-requires : tie.Need-decode-requires

@@ -11,7 +11,7 @@ use Rattle.model.specs.Format.{byte-length}
 use Rattle.model.specs.Refusal.{Accepted, write-refusal}
 use Rattle.model.proofs.Facts.{accepted-head}
 use Rattle.codec.proofs.RefusalLaws.{written}
-use Rattle.codec.proofs.Answered.{written-as, writes, writes-bytes, write-refused, bytes-kept}
+use Rattle.codec.proofs.Answered.{written-as, length-answered, length-refused, filled, kept}
 use Rattle.codec.proofs.write.Statement.{statement}
 use Rattle.codec.proofs.write.Tie as tie
 
@@ -43,7 +43,7 @@ refused c e = c .if1 .taken (c .before .refusal .ensures ∙ e)
 
 returns : tie.Need-returns
 returns c =
-    (ap (λ n. written-as n 0) (c .before .refusal .ensures) ∙ sym (write-refused _ _ _ (refused c)), sym (bytes-kept _ _ _ (refused c)))
+    (ap (λ n. written-as n 0) (c .before .refusal .ensures) ∙ sym (length-refused _ _ (refused c)), sym (kept _ _ _ _ (refused c)))
 
 known :
     (c : tie.Else1)
@@ -76,9 +76,9 @@ returns-2 : tie.Need-returns-2
 returns-2 c =
     let at-length = measured (lent (stored c)) in
     let at-test = passed at-length in (
-      ap₂ written-as (at-test .if1 .left) (at-length .byte-length .ensures) ∙ sym (writes _ _ _ (none at-test)),
+      ap₂ written-as (at-test .if1 .left) (at-length .byte-length .ensures) ∙ sym (length-answered _ _ (none at-test)),
       ap₂ (λ l n. l ++ drop n (bytes-at (checked at-test))) (stored c .encode .ensures) (at-length .byte-length .ensures)
-          ∙ sym (writes-bytes _ _ _ (none at-test)),
+          ∙ sym (filled _ _ _ _ (none at-test)),
     )
 
 encode-requires : tie.Need-encode-requires

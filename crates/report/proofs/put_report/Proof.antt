@@ -7,7 +7,7 @@ use Rattle.model.specs.Limits.{row-room}
 use Rattle.model.specs.Plan.{row-length}
 use Rattle.model.specs.Format.{head-of, row-of}
 use Rattle.model.specs.Refusal.{read-refusal}
-use Rattle.codec.proofs.Answered.{read-number, reads}
+use Rattle.codec.proofs.Answered.{head-number, head-answered}
 use Rattle.codec.proofs.RefusalLaws.{readable}
 use Rattle.report_lines.proofs.AskingLaws.{cleared-none}
 use Rattle.report.proofs.Laws.{report-refused, report-accepted, row-read}
@@ -35,7 +35,7 @@ row c = start (c .before) .args .row .now
 -- the number that reading answers
 number : (c : tie.After-read) → c .read .result .refusal ≡ read-refusal (bytes c) row-room
 number c =
-    ap (λ a. a .refusal) (c .read .ensures .0) ∙ read-number _ _ ∙ ap (read-refusal (bytes c)) (sym (start (c .before) .pre .of-row))
+    ap (λ a. a .refusal) (c .read .ensures .0) ∙ head-number _ _ ∙ ap (read-refusal (bytes c)) (sym (start (c .before) .pre .of-row))
 
 -- where nothing is refused, the head and the row that reading leaves
 module _ (c : tie.Else1) where
@@ -49,7 +49,7 @@ module _ (c : tie.Else1) where
   none-here = ap (read-refusal (bytes at-read)) (sym (start (at-read .before) .pre .of-row)) ∙ none
 
   head-read : at-read .read .result .head ≡ head-of (bytes at-read)
-  head-read = ap (λ a. a .head) (at-read .read .ensures .0 ∙ reads _ _ none-here)
+  head-read = ap (λ a. a .head) (at-read .read .ensures .0 ∙ head-answered _ _ none-here)
 
   row-left : take (row-length (head-of (bytes at-read))) (at-read .read .last .1 .0) ≡ row-of (bytes at-read)
   row-left =

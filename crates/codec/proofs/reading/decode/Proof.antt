@@ -6,18 +6,19 @@ use borrow.Author.Needs.{needs}
 use lib.ListN.{length, take, drop, length-set}
 use lib.Seq.{drop-drop}
 use Rattle.model.specs.Format.{number, head-bits, bits-of}
-use Rattle.codec.proofs.Fields.{Filling, filling-none, filling-more, filling-done}
+use Rattle.model.proofs.Filling.{Filling, filling-none, filling-more, filling-done}
+use Rattle.codec.proofs.Fields.{fields-are}
 use Rattle.codec.proofs.reading.decode.Statement.{statement}
 use Rattle.codec.proofs.reading.decode.Tie as tie
 
 abbrev Inv-loop : tie.InvT-loop
-Inv-loop bytes row₀ i₀ row i = Filling 31 (drop head-bits (bits-of bytes)) row₀ row i
+Inv-loop bytes row₀ i₀ row i = Filling (λ k. number (take 31 (drop (31 * k) (drop head-bits (bits-of bytes))))) row₀ row i
 
 abbrev μ-loop : tie.MeasureT-loop
 μ-loop bytes row₀ i₀ row i = length row - i
 
 loop-holds : tie.Need-loop-holds Inv-loop μ-loop
-loop-holds c = filling-none _ _ _
+loop-holds c = filling-none _ _
 
 mul-field : tie.Need-mul-field Inv-loop μ-loop
 mul-field c = search needs
@@ -44,7 +45,7 @@ loop-less c = simp length-set (omega arith)
 loop-again : tie.Need-loop-again Inv-loop μ-loop
 unfolding head-bits
 loop-again c =
-    filling-more _ _ _ _ _
+    filling-more _ _ _ _
     (c .before .before .loop .inv)
     _
     (c .before .loop-test .taken)
@@ -54,7 +55,7 @@ same-length : tie.Need-same-length Inv-loop μ-loop
 same-length c = c .before .loop .inv .same
 
 returns : tie.Need-returns Inv-loop μ-loop
-returns c = filling-done _ _ _ _ _ (c .before .loop .inv) (c .loop-test .left)
+returns c = filling-done _ _ _ _ (c .before .loop .inv) (c .loop-test .left) ∙ fields-are 31 _ _
 
 pub decode-spec : {M : Type 1} → statement M
 decode-spec =

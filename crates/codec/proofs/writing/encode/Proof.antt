@@ -1,18 +1,19 @@
 -- `codec::writing::encode` meets its contract: the bytes fill with fields of 8 bits.
-use Prim.Native.Nat.{_-_}
+use Prim.Native.Nat.{_*_, _-_}
 use mathlib.Core.Path.{ap, _∙_}
 use native.Mathlib.Omega.{arith}
 use borrow.Author.Needs.{needs}
-use lib.ListN.{length, length-set}
-use Rattle.model.specs.Format.{fields, filled-bits, bytes-of}
+use lib.ListN.{length, take, drop, length-set}
+use Rattle.model.specs.Format.{number, fields, filled-bits, bytes-of}
 use Rattle.model.proofs.Facts.{accepted-head}
 use Rattle.model.proofs.Rooms.{byte-length-fits, longest-between}
-use Rattle.codec.proofs.Fields.{Filling, filling-none, filling-more, filling-done}
+use Rattle.model.proofs.Filling.{Filling, filling-none, filling-more, filling-done}
+use Rattle.codec.proofs.Fields.{fields-are}
 use Rattle.codec.proofs.writing.encode.Statement.{statement}
 use Rattle.codec.proofs.writing.encode.Tie as tie
 
 abbrev Inv-loop : tie.InvT-loop
-Inv-loop head row bytes₀ i₀ bytes i = Filling 8 (filled-bits head row) bytes₀ bytes i
+Inv-loop head row bytes₀ i₀ bytes i = Filling (λ k. number (take 8 (drop (8 * k) (filled-bits head row)))) bytes₀ bytes i
 
 abbrev μ-loop : tie.MeasureT-loop
 μ-loop head row bytes₀ i₀ bytes i = length bytes - i
@@ -21,7 +22,7 @@ abbrev start : tie.At-loop Inv-loop μ-loop → tie.Start Inv-loop μ-loop
 start c = c .before .before .before
 
 loop-holds : tie.Need-loop-holds Inv-loop μ-loop
-loop-holds c = filling-none _ _ _
+loop-holds c = filling-none _ _
 
 mul-byte : tie.Need-mul-byte Inv-loop μ-loop
 mul-byte c = omega (arith, longest-between, byte-length-fits _ (accepted-head _ _ (start (c .before) .pre .0)))
@@ -39,7 +40,7 @@ loop-less : tie.Need-loop-less Inv-loop μ-loop
 loop-less c = simp length-set (omega arith)
 
 loop-again : tie.Need-loop-again Inv-loop μ-loop
-loop-again c = filling-more _ _ _ _ _ (c .before .before .loop .inv) _ (c .before .loop-test .taken) (c .byte .ensures)
+loop-again c = filling-more _ _ _ _ (c .before .before .loop .inv) _ (c .before .loop-test .taken) (c .byte .ensures)
 
 same-length : tie.Need-same-length Inv-loop μ-loop
 same-length c = c .before .loop .inv .same
@@ -47,7 +48,8 @@ same-length c = c .before .loop .inv .same
 returns : tie.Need-returns Inv-loop μ-loop
 unfolding bytes-of
 returns c =
-    filling-done _ _ _ _ _ (c .before .loop .inv) (c .loop-test .left)
+    filling-done _ _ _ _ (c .before .loop .inv) (c .loop-test .left)
+    ∙ fields-are 8 _ _
     ∙ ap (λ n. fields 8 n (filled-bits (start (c .before) .args .head) (start (c .before) .args .row .now))) (start (c .before) .pre .1)
 
 pub encode-spec : {M : Type 1} → statement M

@@ -1,20 +1,21 @@
 -- `record::unpack` meets its contract: there are four bytes for each number.
-use Prim.Native.Nat.{_-_}
+use Prim.Native.Nat.{_*_, _-_}
 use native.Mathlib.Omega.{arith}
 use borrow.Author.Needs.{needs}
 use lib.ListN.{length, length-set}
-use Rattle.vectors.proofs.Unpacking.{Unpacking, unpacking-none, unpacking-more, unpacking-done}
+use Rattle.model.proofs.Filling.{Filling, filling-none, filling-more, filling-done}
+use Rattle.vectors.specs.Records.{number-at, row-in}
 use Rattle.vectors.proofs.record.unpack.Statement.{statement}
 use Rattle.vectors.proofs.record.unpack.Tie as tie
 
 abbrev Inv-loop : tie.InvT-loop
-Inv-loop bytes row₀ i₀ row i = Unpacking bytes row₀ row i
+Inv-loop bytes row₀ i₀ row i = Filling (λ k. number-at bytes (4 * k)) row₀ row i
 
 abbrev μ-loop : tie.MeasureT-loop
 μ-loop bytes row₀ i₀ row i = length row - i
 
 loop-holds : tie.Need-loop-holds Inv-loop μ-loop
-loop-holds c = unpacking-none _ _
+loop-holds c = filling-none _ _
 
 mul-number : tie.Need-mul-number Inv-loop μ-loop
 mul-number c = search needs
@@ -35,13 +36,14 @@ loop-less : tie.Need-loop-less Inv-loop μ-loop
 loop-less c = simp length-set (omega arith)
 
 loop-again : tie.Need-loop-again Inv-loop μ-loop
-loop-again c = unpacking-more _ _ _ _ (c .before .before .loop .inv) _ (c .before .loop-test .taken) (c .number .ensures)
+loop-again c = filling-more _ _ _ _ (c .before .before .loop .inv) _ (c .before .loop-test .taken) (c .number .ensures)
 
 same-length : tie.Need-same-length Inv-loop μ-loop
 same-length c = c .before .loop .inv .same
 
 returns : tie.Need-returns Inv-loop μ-loop
-returns c = unpacking-done _ _ _ _ (c .before .loop .inv) (c .loop-test .left)
+unfolding row-in
+returns c = filling-done _ _ _ _ (c .before .loop .inv) (c .loop-test .left)
 
 pub unpack-spec : {M : Type 1} → statement M
 unpack-spec =

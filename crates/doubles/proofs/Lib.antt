@@ -1,0 +1,3 @@
+pub mod RangeLaws
+pub mod PartLaws
+pub mod RoundLaws

@@ -1,0 +1,4 @@
+pub mod Sheet
+pub mod Rules
+pub mod Refusal
+pub mod Answers
