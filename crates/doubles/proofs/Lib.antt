@@ -1,3 +1,4 @@
 pub mod RangeLaws
 pub mod PartLaws
 pub mod RoundLaws
+pub mod ZeroLaws

@@ -141,15 +141,20 @@ rounded-within a c some small =
     whole : (n : ℕ) → n ≤ 2 ^ 53 → HasValue (fin false n (pos 0)) false n 1 → T (fits binary64 (fin false n (pos 0))) → round binary64 false n 1 ≡ fin false n (pos 0)
     whole n few value fit = whole-unique binary64 (round binary64 false n 1) (fin false n (pos 0)) false n (round-fits binary64 false n 1) fit (round-whole binary64 false n few) value
 
--- a zero keeps its sign
-rounded-zero : (s : Bool) (c : ℕ) → 0 < c → within (round binary64 s 0 c) ≡ true
+-- a zero is a zero of the same sign
+pub rounded-zero : (s : Bool) (c : ℕ) → 0 < c → round binary64 s 0 c ≡ fin s 0 (pos 0)
+unfolding fits
 rounded-zero s c some =
-    go (round binary64 s 0 c) (round-exact binary64 s 0 c 0 0 some (pow-pos 53) (pow-pos 2098) (sym (zero-mul c)))
+    whole-unique binary64 (round binary64 s 0 c) (fin s 0 (pos 0)) s 0 (round-fits binary64 s 0 c) tt
+    (whole (round binary64 s 0 c) (round-exact binary64 s 0 c 0 0 some (pow-pos 53) (pow-pos 2098) (sym (zero-mul c))))
+    (refl, refl)
   where
-    go : (x : Float) → HasValue x s 0 c → within x ≡ true
-    go nan v = absurd v
-    go (inf t) v = absurd v
-    go (fin t m e) v = zero-within t m e (eq-of-mul-eq-mul-right c some (m * up e) 0 (v .1 ∙ zero-mul (down e) ∙ sym (zero-mul c)))
+    whole : (x : Float) → HasValue x s 0 c → HasValue x s 0 1
+    whole nan v = v
+    whole (inf t) v = v
+    whole (fin t m e) v =
+        let none : m * up e ≡ 0 = eq-of-mul-eq-mul-right c some (m * up e) 0 (v .1 ∙ zero-mul (down e) ∙ sym (zero-mul c)) in
+        (v .0, ap (λ (k : ℕ). k * 1) none ∙ sym (zero-mul (down e)))
 
 -- 1 less a double in 0 to 1
 pub within-rest : (x : Float) → within x ≡ true → within (sub binary64 one x) ≡ true
@@ -170,7 +175,10 @@ unfolding mul
 within-product x y h k = go x y (unit x h) (unit y k)
   where
     none : (s t : Bool) (a c : ℕ) → a ≡ 0 → 0 < c → within (round binary64 (unlike s t) a c) ≡ true
-    none s t a c z some = subst (λ (k : ℕ). within (round binary64 (unlike s t) k c) ≡ true) (sym z) (rounded-zero (unlike s t) c some)
+    none s t a c z some =
+        ap (λ (k : ℕ). within (round binary64 (unlike s t) k c)) z
+        ∙ ap within (rounded-zero (unlike s t) c some)
+        ∙ zero-within (unlike s t) 0 (pos 0) refl
 
     go : (x y : Float) → Unit x → Unit y → within (mul binary64 x y) ≡ true
     go nan y u v = absurd u

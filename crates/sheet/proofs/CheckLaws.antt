@@ -19,8 +19,9 @@ use Rattle.doubles.specs.Doubles.{nought, one, within}
 use Rattle.doubles.proofs.RangeLaws.{within-alpha}
 use Rattle.sheet.specs.declared.RuleSheet.{RuleSheet}
 use Rattle.sheet.specs.Sheet.{sheet-length, kind-of, first-of, step-of, alpha-of, sheet-of, sheet-head}
-use Rattle.sheet.specs.Rules.{chance, chances, weights, over, sheet-row, MakesPlan}
-use Rattle.sheet.proofs.RuleLaws.{row-is, row-over}
+use Rattle.sheet.specs.Rules.{chance, chances, weights, tail, sheet-row}
+use Rattle.sheet.specs.Terms.{MakesPlan}
+use Rattle.sheet.proofs.RuleLaws.{tail-left, row-is, row-tail}
 use Rattle.sheet.specs.Refusal.{kind-checks, rule-checks, weight-checks, sheet-checks, sheet-refusal}
 
 -- the number of what a first list refuses, or of what follows it
@@ -38,16 +39,16 @@ passed-on n later passed = rw (eq-eqb n 0 passed)
 module _ (s : RuleSheet) where
   pub tail-is :
       tail-survivable (plan-of (sheet-head s) (sheet-row s))
-      ≡ (ltb 0 (over (s .alpha) (s .sizes)) && ltb (s .sizes + 1) (largest-level (s .opening) (s .months)))
+      ≡ (ltb 0 (tail (s .alpha) (s .sizes)) && ltb (s .sizes + 1) (largest-level (s .opening) (s .months)))
   unfolding tail-survivable plan-of sheet-head
-  tail-is = rw (horizon-is (sheet-head s) (sheet-row s) (row-is s), sizes-is (sheet-head s) (sheet-row s) (row-is s), row-over s)
+  tail-is = rw (horizon-is (sheet-head s) (sheet-row s) (row-is s), sizes-is (sheet-head s) (sheet-row s) (row-is s), row-tail s)
 
   abbrev weighed : ℕ
   weighed = total (weights (s .alpha) (s .sizes))
 
   weights-first :
       first (weight-checks s)
-      ≡ cond (ltb S weighed) 8 (cond (ltb 0 (over (s .alpha) (s .sizes)) && ltb (s .sizes + 1) (largest-level (s .opening) (s .months))) 9 0)
+      ≡ cond (ltb S weighed) 8 (cond (ltb 0 (tail (s .alpha) (s .sizes)) && ltb (s .sizes + 1) (largest-level (s .opening) (s .months))) 9 0)
   unfolding first weight-checks
   weights-first = rw tail-is
 
@@ -57,7 +58,7 @@ module _ (s : RuleSheet) where
   -- 8 is given for nothing else
   pub weights-within : weighed ≤ S → first (weight-checks s) ≡ 8 → ⊥
   weights-within fit eight =
-      other (ltb 0 (over (s .alpha) (s .sizes)) && ltb (s .sizes + 1) (largest-level (s .opening) (s .months)))
+      other (ltb 0 (tail (s .alpha) (s .sizes)) && ltb (s .sizes + 1) (largest-level (s .opening) (s .months)))
       (sym (weights-first ∙ rw (le-ltb _ _ fit)) ∙ eight)
     where
       other : (b : Bool) → _≡_ {A = ℕ} (cond b 9 0) 8 → ⊥
@@ -66,14 +67,16 @@ module _ (s : RuleSheet) where
 
   -- all is left to no size above the largest
   pub no-tail : weighed ≡ S → first (weight-checks s) ≡ 0
-  unfolding over
-  no-tail all = weights-first ∙ rw (le-ltb S weighed (omega arith), le-ltb 0 (S - weighed) (omega arith))
+  no-tail whole =
+      weights-first
+      ∙ rw (le-ltb S weighed (omega arith), le-ltb 0 (tail (s .alpha) (s .sizes)) (omega (arith, tail-left (s .alpha) (s .sizes))))
 
-  -- over is what the weights leave
+  -- the tail is what the weights leave
   module _ (less : weighed < S) where
     tail-first : first (weight-checks s) ≡ cond (ltb (s .sizes + 1) (largest-level (s .opening) (s .months))) 9 0
-    unfolding over
-    tail-first = weights-first ∙ rw (le-ltb S weighed (omega arith), lt-ltb 0 (S - weighed) (omega arith))
+    tail-first =
+        weights-first
+        ∙ rw (le-ltb S weighed (omega arith), lt-ltb 0 (tail (s .alpha) (s .sizes)) (omega (arith, tail-left (s .alpha) (s .sizes))))
 
     pub tail-survives : s .sizes + 1 < largest-level (s .opening) (s .months) → first (weight-checks s) ≡ 9
     tail-survives above = tail-first ∙ rw (lt-ltb _ _ above)
@@ -102,6 +105,27 @@ of-either (suc a) b n other e = absurd (other (sym (refused-here (suc a) b (λ z
 module _ (bytes : List ℕ) where
   abbrev s : RuleSheet
   s = sheet-of bytes
+
+  -- ---- the length and the kind
+
+  kinds-first :
+      first (kind-checks bytes)
+      ≡ cond (not (eqb (length bytes) sheet-length)) 5 (cond (not (eqb (kind-of bytes) 1 || eqb (kind-of bytes) 2)) 12 0)
+  unfolding first kind-checks
+  kinds-first = refl
+
+  pub not-a-sheet : (length bytes ≡ sheet-length → ⊥) → first (kind-checks bytes) ≡ 5
+  not-a-sheet differs = kinds-first ∙ rw (ne-eqb _ _ differs)
+
+  module _ (length-is : length bytes ≡ sheet-length) where
+    pub level-kind : kind-of bytes ≡ 1 → first (kind-checks bytes) ≡ 0
+    level-kind is = kinds-first ∙ rw (eq-eqb _ _ length-is, is)
+
+    pub ramp-kind : kind-of bytes ≡ 2 → first (kind-checks bytes) ≡ 0
+    ramp-kind is = kinds-first ∙ rw (eq-eqb _ _ length-is, is)
+
+    pub other-kind : (kind-of bytes ≡ 1 → ⊥) → (kind-of bytes ≡ 2 → ⊥) → first (kind-checks bytes) ≡ 12
+    other-kind no-level no-ramp = kinds-first ∙ rw (eq-eqb _ _ length-is, ne-eqb _ _ no-level, ne-eqb _ _ no-ramp)
 
   -- ---- the tests of the rules
 
@@ -214,7 +238,6 @@ module _ (bytes : List ℕ) where
               sizes-fit = limits .sizes-fit;
               chances-within = rules .chances-within;
               alpha-within = rules .alpha-within;
-              weights-fit = ltb-false _ _ (weight-ok .0);
             };
         tail-ok = tail-ok .0;
       }

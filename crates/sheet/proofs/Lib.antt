@@ -2,4 +2,6 @@
 pub mod RuleLaws
 pub mod CheckLaws
 pub mod GuardLaws
+pub mod MinusZero
 pub mod Theorems
+pub mod Worked

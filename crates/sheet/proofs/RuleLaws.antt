@@ -1,6 +1,6 @@
 -- The weights and chances of a sheet, one by one: each weight lies in 0 to 1, so its parts fit, and the loops over them.
 use Prim.Native.Nat.{ℕ, zero, suc, _+_, _*_, _-_, _^_, _≤_, _<_}
-use mathlib.Core.Path.{_≡_, refl, sym, ap, ap₂, _∙_, subst}
+use mathlib.Core.Path.{_≡_, refl, sym, ap, ap₂, _∙_}
 use mathlib.Core.Bool.{true, false, not}
 use mathlib.Core.List.{List, [], _∷_, _++_, append-nil}
 use native.Mathlib.Numerals.{add-one}
@@ -23,7 +23,7 @@ use Rattle.doubles.proofs.PartLaws.{parts-fit}
 use Rattle.sheet.specs.declared.ChanceRule.{ChanceRule}
 use Rattle.sheet.specs.declared.RuleSheet.{RuleSheet}
 use Rattle.sheet.specs.Sheet.{sheet-head}
-use Rattle.sheet.specs.Rules.{chance, repeated, weight, chances, weights, over, size-part, sheet-row, SizesFit, MakesPlan}
+use Rattle.sheet.specs.Rules.{chance, repeated, weight, chances, weights, tail, size-part, sheet-row}
 
 -- ---- the weights
 
@@ -118,15 +118,20 @@ sizes-length : (alpha : Float) (m : ℕ) → length (size-part alpha m) ≡ m + 
 unfolding size-part
 sizes-length alpha m = length-append (weights alpha m) _ ∙ ap (λ n. n + 1) (weights-length alpha m)
 
--- the weights stored, and then over
+-- the tail is what the weights leave of S
+pub tail-left : (alpha : Float) (m : ℕ) → S - total (weights alpha m) ≡ tail alpha m
+unfolding tail
+tail-left alpha m = refl
+
+-- the weights stored, and then the tail
 pub sizes-stored :
-    (alpha : Float) (row : List ℕ) (m : ℕ) → length row ≡ m + 1 → set (weights alpha m ++ drop m row) m (over alpha m) ≡ size-part alpha m
+    (alpha : Float) (row : List ℕ) (m : ℕ) → length row ≡ m + 1 → set (weights alpha m ++ drop m row) m (tail alpha m) ≡ size-part alpha m
 unfolding size-part
 sizes-stored alpha row m one-more =
     let last : drop m row ≡ getD row m 0 ∷ drop (suc m) row = drop-cons row m 0 (omega arith) in
     let end : drop (suc m) row ≡ [] = drop-of-length-le row {i = suc m} (omega arith) in
-    ap (λ l. set (weights alpha m ++ l) m (over alpha m)) (last ∙ ap (λ l. getD row m 0 ∷ l) end)
-    ∙ set-at (weights alpha m) (getD row m 0) [] (over alpha m) m (weights-length alpha m)
+    ap (λ l. set (weights alpha m ++ l) m (tail alpha m)) (last ∙ ap (λ l. getD row m 0 ∷ l) end)
+    ∙ set-at (weights alpha m) (getD row m 0) [] (tail alpha m) m (weights-length alpha m)
 
 -- the first part stored, and then all that follows it
 pub rest-stored :
@@ -137,17 +142,6 @@ rest-stored first rest row n is =
     let after : drop count (drop n row) ≡ [] = drop-of-length-le (drop n row) {i = count} (omega (arith, length-append first (drop n row))) in
     ap₂ (λ a b. a ++ (rest ++ b)) (take-at first (drop n row) n is) (ap (drop count) (drop-at first (drop n row) n is) ∙ after)
     ∙ ap (λ l. first ++ l) (append-nil rest)
-
--- the part of a row for the sizes of a sheet
-pub sizes-fit : (s : RuleSheet) → MakesPlan s → (count : ℕ) → count ≡ s .sizes + 1 → SizesFit (s .alpha) count
-sizes-fit s plan count is =
-    let sizes : s .sizes ≡ count - 1 = omega arith in
-    record {
-      some = omega arith;
-      few = omega (arith, plan .sizes-fit);
-      alpha-within = plan .alpha-within;
-      weights-fit = subst (λ n. total (weights (s .alpha) n) ≤ S) sizes (plan .weights-fit);
-    }
 
 module _ (s : RuleSheet) where
   -- it has the length that the head asks
@@ -161,10 +155,10 @@ module _ (s : RuleSheet) where
         sizes-length (s .alpha) (s .sizes),
       )
 
-  -- over at its end
-  pub row-over : getD (sheet-row s) (s .months + s .sizes) 0 ≡ over (s .alpha) (s .sizes)
+  -- the tail at its end
+  pub row-tail : getD (sheet-row s) (s .months + s .sizes) 0 ≡ tail (s .alpha) (s .sizes)
   unfolding sheet-row size-part
-  row-over =
+  row-tail =
       let front = chances (s .rule) (s .months) in
       let middle = weights (s .alpha) (s .sizes) in
       let start : s .months + s .sizes ≡ length front + (length middle + 0) =

@@ -23,10 +23,11 @@ use Rattle.codec.specs.Answers.{length-answer}
 use Rattle.codec.proofs.RefusalLaws.{write-room}
 use Rattle.sheet.specs.declared.RuleSheet.{RuleSheet}
 use Rattle.sheet.specs.Sheet.{sheet-of, sheet-head}
-use Rattle.sheet.specs.Rules.{chances, weights, over, size-part, sheet-row, MakesPlan}
+use Rattle.sheet.specs.Rules.{chances, weights, tail, size-part, sheet-row}
+use Rattle.sheet.specs.Terms.{MakesPlan}
 use Rattle.sheet.specs.Refusal.{sheet-checks, sheet-refusal}
 use Rattle.sheet.specs.Answers.{plan-head, plan-row, plan-answer}
-use Rattle.sheet.proofs.RuleLaws.{weight-within, chance-within, chances-length, row-is, row-over}
+use Rattle.sheet.proofs.RuleLaws.{weight-within, chance-within, chances-length, row-is, row-tail}
 use Rattle.sheet.proofs.CheckLaws.{SheetFacts, sheet-facts, tail-is, passed-on, of-either, refusal-is, refused-early, accepted, enough, eight, weights-within}
 use Rattle.sheet.proofs.GuardLaws.{weights-never-pass}
 
@@ -47,19 +48,19 @@ module _ (s : RuleSheet) (plan : MakesPlan s) where
       ∙ none-to (s .sizes) _ (λ i l. le-ltb _ _ (parts-fit _ (weight-within (s .alpha) (plan .alpha-within) (suc i))))
 
   row-small : any (ltb S) (sheet-row s) ≡ false
-  unfolding sheet-row size-part any over
+  unfolding sheet-row size-part any tail
   row-small =
       none-append (ltb S) (chances (s .rule) (s .months)) _ chances-small
       (none-append (ltb S) (weights (s .alpha) (s .sizes)) _ weights-small
-      (rw (le-ltb S (over (s .alpha) (s .sizes)) (omega arith))))
+      (rw (le-ltb S (tail (s .alpha) (s .sizes)) (omega arith))))
 
-  -- the weights and over add up to S
+  -- the weights and the tail add up to S
   weights-whole : total (drop (s .months) (sheet-row s)) ≡ S
-  unfolding sheet-row size-part total over
+  unfolding sheet-row size-part total tail
   weights-whole =
       ap total (drop-at (chances (s .rule) (s .months)) _ (s .months) (chances-length (s .rule) (s .months)))
       ∙ total-append (weights (s .alpha) (s .sizes)) _
-      ∙ (omega (arith, plan .weights-fit))
+      ∙ (omega (arith, weights-never-pass (s .alpha) (plan .alpha-within) (s .sizes) (plan .sizes-fit)))
 
 -- ---- the plan of an accepted sheet
 
@@ -72,7 +73,7 @@ module _ (bytes : List ℕ) (none : first (sheet-checks bytes) ≡ 0) where
   accepted-plan =
       let s = sheet-of bytes in
       by-weights (plan-head bytes) (plan-row bytes) (known .head-ok) (row-is s) (row-small s (known .makes-plan)) S (sym (weights-whole s (known .makes-plan)))
-      ∙ rw (eq-eqb S S refl, row-over s, sym (tail-is s) ∙ known .tail-ok)
+      ∙ rw (eq-eqb S S refl, row-tail s, sym (tail-is s) ∙ known .tail-ok)
 
   -- its bytes are refused for want of room alone, with the number of the sheet's call
   pub write-number : (room : ℕ) → write-refusal (plan-head bytes) (plan-row bytes) room ≡ sheet-refusal bytes (byte-length (plan-head bytes)) room

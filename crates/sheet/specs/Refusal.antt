@@ -1,4 +1,4 @@
--- When a sheet is turned away. The numbers 12 (kind) and 13 (rule) are new; the others are those of document 01's table.
+-- When a sheet is turned away (document 02, Job 4). The numbers 12 (kind) and 13 (rule) are new; the others are those of document 01's table.
 use Prim.Native.Nat.{ℕ}
 use mathlib.Core.Bool.{Bool, not, _&&_, _||_}
 use mathlib.Core.List.{List, [], _∷_, _++_}

@@ -1,5 +1,5 @@
--- "A sheet is 29 bytes, most significant byte first: kind, months, opening (one byte each), sizes (two bytes), then first, step and alpha as IEEE 754
--- binary64." Doubles are those of the library's own account of IEEE 754, in which every NaN is one.
+-- Rule sheets (document 02, Job 4): "A sheet is 29 bytes, most significant byte first: kind, months, opening (one byte each), sizes (two bytes), then
+-- first, step and alpha as IEEE 754 binary64." Doubles are those of the library's own account of IEEE 754, in which every NaN is one.
 use Prim.Native.Nat.{ℕ}
 use mathlib.Core.Bool.{cond}
 use mathlib.Core.List.{List}

@@ -14,7 +14,8 @@ ghost use Rattle.model.specs.Sums.{one-to, total, any};
 ghost use Rattle.model.specs.Plan.{row-length};
 ghost use Rattle.doubles.specs.Doubles.{within};
 ghost use Rattle.sheet.specs.Sheet.{sheet-head};
-ghost use Rattle.sheet.specs.Rules.{chances, weights, size-part, sheet-row, SizesFit, MakesPlan};
+ghost use Rattle.sheet.specs.Rules.{chances, weights, size-part, sheet-row};
+ghost use Rattle.sheet.specs.Terms.{MakesPlan};
 ghost use Rattle.sheet.specs.Rules.{chance as Rules·chance};
 
 // The chance of a month, counted from 1: the product is rounded, and then the sum.
@@ -86,7 +87,7 @@ fn put_weights(alpha: f64, row: &mut [u32])
 
 // The weights of all sizes but for the row's last number, which takes what they leave of the scale.
 fn put_sizes(alpha: f64, row: &mut [u32])
-    requires { ⌜ SizesFit alpha (length (now row)) ⌝ }
+    requires { ⌜ (0 < length (now row)) × (length (now row) - 1 ≤ max-sizes) × (within alpha ≡ true) ⌝ }
     ensures { λ _. ⌜ now (row .exit) ≡ size-part alpha (length (now (row .entry)) - 1) ⌝ }
 {
     let sizes = row.len() - 1;
@@ -94,7 +95,7 @@ fn put_sizes(alpha: f64, row: &mut [u32])
     row[sizes] = SCALE - weights_total(alpha, sizes) as u32;
 }
 
-// The plan's row: chances, weights, over.
+// The plan's row: chances, weights, tail.
 pub fn put_row(sheet: RuleSheet, row: &mut [u32])
     requires { ⌜ MakesPlan sheet ⌝ }
     requires { ⌜ length (now row) ≡ row-length (sheet-head sheet) ⌝ }

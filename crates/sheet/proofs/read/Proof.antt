@@ -12,7 +12,8 @@ use Rattle.codec.specs.declared.ReadAnswer.{ReadAnswer}
 use Rattle.codec.specs.Answers.{no-head}
 use Rattle.codec.proofs.Answered.{read-as, head-answered, head-refused, filled, kept}
 use Rattle.sheet.specs.Sheet.{sheet-of, sheet-head}
-use Rattle.sheet.specs.Rules.{sheet-row, MakesPlan}
+use Rattle.sheet.specs.Rules.{sheet-row}
+use Rattle.sheet.specs.Terms.{MakesPlan}
 use Rattle.sheet.specs.Refusal.{sheet-checks, sheet-refusal}
 use Rattle.sheet.specs.Answers.{plan-head, sheet-answer, sheet-row-after}
 use Rattle.sheet.proofs.CheckLaws.{SheetFacts, sheet-facts, refused-early, refused-short, accepted}

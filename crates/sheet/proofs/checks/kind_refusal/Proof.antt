@@ -1,16 +1,13 @@
 -- `checks::kind_refusal` meets its contract.
 use mathlib.Core.Path.{_≡_, sym, _∙_}
 use borrow.Author.Needs.{needs}
-use borrow.Author.Tests.{eq-eqb, ne-eqb}
-use Rattle.model.specs.Refusal.{first}
 use Rattle.sheet.specs.Sheet.{field, kind-of}
-use Rattle.sheet.specs.Refusal.{kind-checks}
+use Rattle.sheet.proofs.CheckLaws.{not-a-sheet, level-kind, ramp-kind, other-kind}
 use Rattle.sheet.proofs.checks.kind_refusal.Statement.{statement}
 use Rattle.sheet.proofs.checks.kind_refusal.Tie as tie
 
 returns : tie.Need-returns
-unfolding first kind-checks
-returns c = rw (ne-eqb _ _ (c .if1 .taken))
+returns c = sym (not-a-sheet _ (c .if1 .taken))
 
 big-endian-requires : tie.Need-big-endian-requires
 big-endian-requires c κs = search needs
@@ -24,30 +21,19 @@ unfolding field
 kind-is c = c .big-endian .ensures .0
 
 returns-2 : tie.Need-returns-2
-unfolding first kind-checks
 returns-2 c =
     let read = c .before in
-    rw (eq-eqb _ _ (passed read .if1 .left), eq-eqb _ _ (sym (kind-is read) ∙ c .if2 .taken))
+    sym (level-kind _ (passed read .if1 .left) (sym (kind-is read) ∙ c .if2 .taken))
 
 returns-3 : tie.Need-returns-3
-unfolding first kind-checks
 returns-3 c =
     let read = c .before .before in
-    rw (
-      eq-eqb _ _ (passed read .if1 .left),
-      ne-eqb _ _ (λ e. c .before .if2 .left (kind-is read ∙ e)),
-      eq-eqb _ _ (sym (kind-is read) ∙ c .if3 .taken),
-    )
+    sym (ramp-kind _ (passed read .if1 .left) (sym (kind-is read) ∙ c .if3 .taken))
 
 returns-4 : tie.Need-returns-4
-unfolding first kind-checks
 returns-4 c =
     let read = c .before .before in
-    rw (
-      eq-eqb _ _ (passed read .if1 .left),
-      ne-eqb _ _ (λ e. c .before .if2 .left (kind-is read ∙ e)),
-      ne-eqb _ _ (λ e. c .if3 .left (kind-is read ∙ e)),
-    )
+    sym (other-kind _ (passed read .if1 .left) (λ e. c .before .if2 .left (kind-is read ∙ e)) (λ e. c .if3 .left (kind-is read ∙ e)))
 
 pub kind-refusal-spec : {M : Type 1} → statement M
 kind-refusal-spec = tie.close (tie.spec returns big-endian-requires returns-2 returns-3 returns-4)

@@ -9,7 +9,7 @@ use lib.Seq.{length-take-le}
 use Rattle.sheet.specs.declared.RuleSheet.{RuleSheet}
 use Rattle.sheet.specs.Sheet.{sheet-head}
 use Rattle.sheet.specs.Rules.{chances, size-part, sheet-row}
-use Rattle.sheet.proofs.RuleLaws.{chances-length, rest-stored, sizes-fit}
+use Rattle.sheet.proofs.RuleLaws.{chances-length, rest-stored}
 use Rattle.sheet.proofs.rules.put_row.Statement.{statement}
 use Rattle.sheet.proofs.rules.put_row.Tie as tie
 
@@ -78,7 +78,9 @@ rest-length :
 rest-length c = simp (length-take, length-drop, length-append) (omega (arith, stored-length (chances-stored c), long (lent (chances-stored c))))
 
 put-sizes-requires : tie.Need-put-sizes-requires
-put-sizes-requires c κs = sizes-fit _ (start (lent (chances-stored c)) .pre .0) _ (rest-length c)
+put-sizes-requires c κs =
+    let plan = start (lent (chances-stored c)) .pre .0 in
+    (omega (arith, rest-length c), omega (arith, rest-length c, plan .sizes-fit), plan .alpha-within)
 
 same-length : tie.Need-same-length
 same-length c = search needs

@@ -1,5 +1,5 @@
--- `rules::put_sizes` meets its contract: the weights, and over in the place after them.
-use Prim.Native.Nat.{ℕ, _-_}
+-- `rules::put_sizes` meets its contract: the weights, and the tail in the place after them.
+use Prim.Native.Nat.{ℕ, _-_, _≤_}
 use mathlib.Core.Path.{_≡_, sym, ap, ap₂, _∙_}
 use mathlib.Core.List.{List, _++_}
 use native.Mathlib.Omega.{arith}
@@ -8,8 +8,10 @@ use lib.Ieee.{Float}
 use lib.ListN.{length, take, drop, set}
 use lib.Seq.{length-take-le}
 use Rattle.model.specs.Scale.{S}
-use Rattle.sheet.specs.Rules.{weights, over}
+use Rattle.model.specs.Sums.{total}
+use Rattle.sheet.specs.Rules.{weights, tail}
 use Rattle.sheet.proofs.RuleLaws.{sizes-stored}
+use Rattle.sheet.proofs.GuardLaws.{weights-never-pass}
 use Rattle.sheet.proofs.rules.put_sizes.Statement.{statement}
 use Rattle.sheet.proofs.rules.put_sizes.Tie as tie
 
@@ -45,13 +47,17 @@ weights-total-requires c κs = search needs
 abbrev lent : tie.After-weights-total → tie.After-put-weights-arg
 lent c = c .before .before .before .before
 
+-- the weights do not pass the scale
+fits : (c : tie.After-weights-total) → total (weights (alpha-at (lent c)) (length (row-at (lent c)) - 1)) ≤ S
+fits c = weights-never-pass (alpha-at (lent c)) (start (lent c) .pre .2) _ (start (lent c) .pre .1)
+
 cast-row : tie.Need-cast-row
 unfolding S
-cast-row c = omega (arith, c .weights-total .ensures, start (lent c) .pre .weights-fit)
+cast-row c = omega (arith, c .weights-total .ensures, fits c)
 
 sub-row : tie.Need-sub-row
 unfolding S
-sub-row c = omega (arith, c .weights-total .ensures, start (lent c) .pre .weights-fit)
+sub-row c = omega (arith, c .weights-total .ensures, fits c)
 
 mul-row : tie.Need-mul-row
 mul-row c = search needs
@@ -63,14 +69,14 @@ same-length : tie.Need-same-length
 same-length c = search needs
 
 returns : tie.Need-returns
-unfolding S over
+unfolding S tail
 returns c =
     let row = row-at (lent c) in
     let m = length row - 1 in
     let alpha = alpha-at (lent c) in
     let stored = c .before .before .before .put-weights .ensures ∙ ap (weights alpha) (lent-length (lent c)) in
     ap₂ (λ w v. set (w ++ drop m row) m v) stored (ap (λ t. S - t) (c .weights-total .ensures))
-    ∙ sizes-stored alpha row m (omega (arith, start (lent c) .pre .some))
+    ∙ sizes-stored alpha row m (omega (arith, start (lent c) .pre .0))
 
 pub put-sizes-spec : {M : Type 1} → statement M
 put-sizes-spec =
