@@ -1,8 +1,8 @@
 -- Laws of the claim sum as the loops go through it: the sizes listed one by one, and then those without a gap.
 use mathlib.Core.Path.{_≡_, sym, _∙_, ap}
-use mathlib.Core.List.{List, [], _∷_, _++_, map}
+use mathlib.Core.List.{List, _++_, map, map-append}
 use Prim.Native.Nat.{ℕ, zero, suc, _+_, _*_, _-_, _≤_, _<_, min}
-use native.Mathlib.Nat.{le-trans, mul-le-mul-right, zero-add, zero-mul}
+use native.Mathlib.Nat.{le-trans, mul-le-mul-right, zero-mul}
 use native.Mathlib.Numerals.{add-one}
 use native.Mathlib.Omega.{arith}
 use lib.ListN.{length, getD, drop, length-append, List·getD-append, drop-of-length-le}
@@ -12,7 +12,7 @@ use Rattle.model.specs.Sums.{sum, total}
 use Rattle.model.specs.Plan.{nth}
 use Rattle.model.specs.MonthRule.{Row, claim-sum}
 use Rattle.model.specs.FilledSizes.{filled-sizes, filled-sum, filled-count}
-use Rattle.model.proofs.SumLaws.{sum-ext, sum-last}
+use Rattle.model.proofs.SumLaws.{sum-ext, sum-last, total-append}
 use Rattle.model.proofs.Month.{claim-sum-bound}
 use Rattle.model.proofs.FilledLaws.{filled-total, filled-sum-is, filled-inside, filled-count-is, filled-all}
 use Rattle.claims.specs.Values.{from-top, Parts}
@@ -68,11 +68,6 @@ unfolding sum
 down-summing-end f most so-far products zero l h = (omega (arith, h .whole), omega (arith, h .passed))
 down-summing-end f most so-far products (suc x) l h = absurd (omega arith)
 
-total-append-map : (f : ℕ → ℕ) (xs ys : List ℕ) → total (map f (xs ++ ys)) ≡ total (map f xs) + total (map f ys)
-unfolding total
-total-append-map f [] ys = sym (zero-add _)
-total-append-map f (x ∷ xs) ys = omega (arith, total-append-map f xs ys)
-
 -- The filled sizes of a range in two parts: those listed, and all of the sizes 1 to `low`.
 pub record Parted (F after sizes : List ℕ) (low : ℕ) : Type 0 where
   pub count : length sizes + low ≡ filled-count F (length after + 1)
@@ -87,7 +82,7 @@ parted F after sizes dense low e h el =
       count = omega (arith, length-append sizes (filled-sizes F low), all, ap length whole, rw less at (filled-count-is F (length after + 1)));
       sums =
           ap (λ (t : ℕ). total (map f sizes) + t) (sym (filled-total F f empty low))
-          ∙ sym (total-append-map f sizes (filled-sizes F low))
+          ∙ sym (ap total (map-append f sizes (filled-sizes F low)) ∙ total-append (map f sizes) (map f (filled-sizes F low)))
           ∙ ap (λ (ys : List ℕ). total (map f ys)) whole
           ∙ filled-total F f empty n;
     }

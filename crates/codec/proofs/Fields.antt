@@ -8,8 +8,8 @@ use native.Mathlib.Omega.{arith}
 use lib.Dec.{lit<}
 use lib.Arith.{digits-lt, digits-div, digits-mod, mod-mul}
 use lib.Pow.{pow-pos, pow-mono}
-use lib.ListN.{length, getD, take, drop, set, length-append, length-set, length-take, length-drop, List·getD-append}
-use lib.Seq.{take-all, take-at, take-suc, take-suc-set, take-add, drop-at, drop-drop, getD-drop, getD-append-add, length-take-le}
+use lib.ListN.{length, getD, take, drop, length-append, length-take, length-drop, List·getD-append}
+use lib.Seq.{take-at, take-suc, take-add, drop-at, drop-drop, getD-drop, getD-append-add, length-take-le}
 use Rattle.model.specs.CountRow.{tabulate}
 use Rattle.model.specs.Format.{bits, number, fields}
 

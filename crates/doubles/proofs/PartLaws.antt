@@ -1,6 +1,6 @@
 -- The parts of a double in 0 to 1, by its bits: the digits, with the leading one put back, shifted by what the exponent leaves.
 use Prim.Native.Nat.{ℕ, zero, suc, _+_, _*_, _-_, _/_, _%_, _^_, _≤_, _<_}
-use mathlib.Core.Path.{_≡_, refl, sym, ap, _∙_, subst}
+use mathlib.Core.Path.{_≡_, sym, ap, _∙_, subst}
 use mathlib.Core.Bool.{Bool, true, false, not, cond}
 use native.Mathlib.Nat.{le-trans, le-of-eq, lt-of-lt-of-le, lt-of-not-le, lt-irrefl, le-of-suc-le-suc, le-add-right, mul-comm, mul-assoc, mul-right-comm, mul-le-mul-right, le-of-mul-le-mul-right, mod-lt, div-eq-of-lt, div-le-of-le-mul}
 use native.Mathlib.Omega.{arith}

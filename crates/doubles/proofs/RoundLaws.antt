@@ -1,5 +1,5 @@
 -- How far above its fraction a double in 0 to 1 can be rounded: by at most 2^-52. Sizes are in units of 2^-1074, of which every double is a whole number.
-use Prim.Native.Nat.{ℕ, suc, _+_, _*_, _-_, _/_, _%_, _^_, _≤_, _<_, compare}
+use Prim.Native.Nat.{ℕ, _+_, _*_, _-_, _/_, _%_, _^_, _≤_, _<_, compare}
 use mathlib.Core.Path.{_≡_, refl, sym, ap, ap₂, _∙_, subst}
 use mathlib.Core.Bool.{Bool, true, false}
 use native.Mathlib.Nat.{le-trans, le-of-eq, lt-of-le-of-lt, mul-le-mul-left, mul-le-mul-right, mul-comm, mul-assoc, mul-right-comm, suc-mul, add-mul, div-mul-le-self, div-le-of-le-mul, le-of-mul-le-mul-right, one-mul, mul-pos, mul-le-mul}

@@ -1,18 +1,13 @@
 -- "Minus zero counts as zero": doubles that are the same, or zeros of whatever sign, pass the same tests, have the same parts, and give such doubles again.
-use Prim.Native.Nat.{ℕ, zero, suc, _+_, _*_, _-_, _^_, _<_}
+use Prim.Native.Nat.{ℕ, zero, suc, _*_, _<_}
 use mathlib.Core.Path.{_≡_, refl, sym, ap, _∙_, subst}
-use mathlib.Core.Logic.{_⊎_, inl, inr, ⊎-elim}
 use mathlib.Core.Bool.{Bool, true, false, not}
 use native.Mathlib.Nat.{zero-mul, mul-zero, zero-add, add-zero, sub-zero}
 use native.Mathlib.Omega.{arith}
 use borrow.Author.Tests.{lt-ltb, le-ltb}
 use lib.IntN.{pos}
-use lib.Dec.{lit<}
-use lib.Pow.{pow-pos}
-use lib.Ieee.{Float, nan, inf, fin, binary64, up, down, unlike, round, sum, neg, add, sub, mul, lt, eq, le, ne, fits}
-use lib.Ieee.Fits.{down-pos, round-fits}
-use lib.Ieee.Exact.{HasValue, round-exact}
-use lib.Ieee.Back.{whole-unique}
+use lib.Ieee.{Float, nan, inf, fin, binary64, up, down, unlike, round, sum, neg, add, sub, mul, lt, eq, le, ne}
+use lib.Ieee.Fits.{down-pos}
 use lib.Ieee.Scale.{finite}
 use Rattle.model.specs.Scale.{S}
 use Rattle.doubles.specs.Doubles.{nought, one, within, parts}

@@ -3,7 +3,7 @@ use mathlib.Core.Path.{_≡_, refl, sym, fun-ext}
 use mathlib.Core.Bool.{Bool, true, false, cond}
 use mathlib.Core.List.{List, [], _∷_, _++_}
 use mathlib.Core.Option.{Option, none, some}
-use Prim.Native.Nat.{ℕ, zero, suc, _+_, _*_, _-_, _^_, _≤_}
+use Prim.Native.Nat.{ℕ, zero, suc, _+_, _*_, _^_, _≤_}
 use native.Mathlib.Nat.{pow-zero, add-mul, mul-assoc, one-mul, zero-mul, zero-add, le-refl}
 use native.Mathlib.Omega.{arith}
 use lib.ListN.{length, getD, take}

@@ -1,5 +1,5 @@
 -- The checks of a sheet, one after the other, and what is known of a sheet that none of them turns away.
-use Prim.Native.Nat.{ℕ, zero, suc, _+_, _-_, _<_, _≤_}
+use Prim.Native.Nat.{ℕ, zero, suc, _+_, _<_, _≤_}
 use mathlib.Core.Path.{_≡_, refl, sym, ap, _∙_}
 use mathlib.Core.Bool.{Bool, true, false, not, _&&_, _||_, cond}
 use mathlib.Core.List.{List, [], _∷_}
@@ -11,7 +11,7 @@ use lib.Ieee.Scale.{finite}
 use lib.ListN.{length}
 use Rattle.model.specs.Scale.{S}
 use Rattle.model.specs.Sums.{one-to, total, any, all}
-use Rattle.model.specs.Plan.{plan-of, row-length}
+use Rattle.model.specs.Plan.{plan-of}
 use Rattle.model.specs.Levels.{largest-level}
 use Rattle.model.specs.Refusal.{first, head-checks, tail-survivable, HeadAccepted, room-check}
 use Rattle.model.proofs.Facts.{numbered, neither, first-append, none-fits, none-fits-append, head-numbered, head-facts, horizon-is, sizes-is}
@@ -19,7 +19,7 @@ use Rattle.doubles.specs.Doubles.{nought, one, within}
 use Rattle.doubles.proofs.RangeLaws.{within-alpha}
 use Rattle.sheet.specs.declared.RuleSheet.{RuleSheet}
 use Rattle.sheet.specs.Sheet.{sheet-length, kind-of, first-of, step-of, alpha-of, sheet-of, sheet-head}
-use Rattle.sheet.specs.Rules.{chance, chances, weights, tail, sheet-row}
+use Rattle.sheet.specs.Rules.{chance, weights, tail, sheet-row}
 use Rattle.sheet.specs.Terms.{MakesPlan}
 use Rattle.sheet.proofs.RuleLaws.{tail-left, row-is, row-tail}
 use Rattle.sheet.specs.Refusal.{kind-checks, rule-checks, weight-checks, sheet-checks, sheet-refusal}
@@ -185,10 +185,12 @@ module _ (bytes : List ℕ) where
   pub accepted : (needed room : ℕ) → first (sheet-checks bytes) ≡ 0 → needed ≤ room → sheet-refusal bytes needed room ≡ 0
   accepted needed room none enough = refusal-is needed room ∙ passed-on _ _ none ∙ rw (le-ltb _ _ enough)
 
-  pub enough : (needed room : ℕ) → sheet-refusal bytes needed room ≡ 0 → needed ≤ room
+  -- where nothing is refused, neither the sheet nor the room was
+  pub all-passed : (needed room : ℕ) → sheet-refusal bytes needed room ≡ 0 → (first (sheet-checks bytes) ≡ 0) × (needed ≤ room)
   unfolding sheet-refusal
-  enough needed room none =
-      ltb-false _ _ (none-fits _ _ _ (none-fits-append (sheet-checks bytes) (room-check needed room ∷ []) sheet-numbered none .1) .0)
+  all-passed needed room none =
+      let parts = none-fits-append (sheet-checks bytes) (room-check needed room ∷ []) sheet-numbered none in
+      (parts .0, ltb-false _ _ (none-fits _ _ _ (parts .1) .0))
 
   -- ---- what is known where no check fits
 

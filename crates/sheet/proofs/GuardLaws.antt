@@ -1,14 +1,14 @@
 -- The weights of a sheet never pass S, so its check for that is a guard that no sheet reaches. Each weight is at most 2^-52 more than what it is rounded
 -- from, and without that they would add up to at most 1; over all sizes it comes to less than one part.
 use Prim.Native.Nat.{ℕ, zero, suc, _+_, _*_, _-_, _^_, _≤_, _<_, zero-le}
-use mathlib.Core.Path.{_≡_, refl, sym, ap, ap₂, _∙_, subst}
+use mathlib.Core.Path.{_≡_, sym, ap, ap₂, _∙_, subst}
 use mathlib.Core.Bool.{true}
 use native.Mathlib.Nat.{le-trans, le-of-eq, lt-of-le-of-lt, lt-of-mul-lt-mul-right, le-of-suc-le-suc, suc-mul, mul-comm, mul-assoc, mul-add, add-mul, zero-add, one-mul, mul-le-mul-left, mul-le-mul-right, le-of-mul-le-mul-right, sub-add-cancel, div-mul-le-self}
 use native.Mathlib.Numerals.{add-one}
 use native.Mathlib.Omega.{arith}
 use lib.Dec.{lit<}
 use lib.Pow.{pow-pos}
-use lib.Ieee.{Float, binary64, sub, mul}
+use lib.Ieee.{Float}
 use lib.Ieee.Digits.{Equals}
 use lib.Ieee.Positive.{num, den, den-pos}
 use Rattle.model.specs.Limits.{max-sizes}

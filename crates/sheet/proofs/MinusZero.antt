@@ -4,8 +4,7 @@ use mathlib.Core.Path.{_≡_, refl, ap, ap₂, _∙_, subst, fun-ext}
 use mathlib.Core.Bool.{Bool, true, false, not, _&&_, _||_, cond}
 use mathlib.Core.List.{List, [], _∷_, _++_, map}
 use lib.Dec.{ltb, eqb}
-use lib.Ieee.{Float, binary64, sub, mul, lt, ne}
-use lib.Ieee.Scale.{finite}
+use lib.Ieee.{Float, binary64, sub, mul}
 use lib.ListN.{length}
 use Rattle.model.specs.declared.Head.{Head}
 use Rattle.model.specs.Scale.{S}
@@ -14,9 +13,8 @@ use Rattle.model.specs.Plan.{plan-of, row-length}
 use Rattle.model.specs.Format.{byte-length, bytes-of}
 use Rattle.model.specs.Refusal.{first, head-checks, tail-survivable, room-check}
 use Rattle.codec.specs.Answers.{head-answer, length-answer, filled-after}
-use Rattle.doubles.specs.Doubles.{nought, one, within, parts}
+use Rattle.doubles.specs.Doubles.{one, within, parts}
 use Rattle.doubles.proofs.ZeroLaws.{Alike, same, parts-alike, finite-alike, within-alike, below-zero-alike, below-one-alike, not-zero-alike, add-alike, mul-alike, sub-alike}
-use Rattle.sheet.specs.declared.ChanceRule.{ChanceRule}
 use Rattle.sheet.specs.declared.ChanceRule.the-variants.{Level, Ramp}
 use Rattle.sheet.specs.Sheet.{sheet-length, kind-of, first-of, step-of, alpha-of, rule-of, sheet-of, sheet-head}
 use Rattle.sheet.specs.Rules.{repeated, chance, weight, chances, weights, tail, size-part, sheet-row}

@@ -7,7 +7,7 @@ use native.Mathlib.Numerals.{add-one}
 use native.Mathlib.Omega.{arith}
 use borrow.Author.Tests.{not-false}
 use lib.Ieee.{Float, binary64, sub, mul}
-use lib.ListN.{length, getD, drop, set, length-append, length-drop, drop-of-length-le}
+use lib.ListN.{length, getD, drop, set, length-append, drop-of-length-le}
 use lib.Seq.{getD-append-add, drop-cons, set-at, take-at, drop-at}
 use borrow.Rule.Slice.PartMut.{putMid}
 use Rattle.model.specs.Limits.{max-sizes}

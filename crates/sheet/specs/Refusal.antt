@@ -8,8 +8,7 @@ use lib.Ieee.Scale.{finite}
 use lib.ListN.{length}
 use Rattle.model.specs.Scale.{S}
 use Rattle.model.specs.Sums.{one-to, total, any}
-use Rattle.model.specs.Plan.{plan-of, row-length}
-use Rattle.model.specs.Format.{byte-length}
+use Rattle.model.specs.Plan.{plan-of}
 use Rattle.model.specs.Refusal.{first, head-checks, tail-survivable, room-check}
 use Rattle.doubles.specs.Doubles.{nought, one, within}
 use Rattle.sheet.specs.declared.RuleSheet.{RuleSheet}

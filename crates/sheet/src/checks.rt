@@ -10,7 +10,6 @@ use numbers::big_endian;
 use plan::lengths::largest_level;
 ghost use mathlib.Core.Path.{_≡_};
 ghost use mathlib.Core.Bool.{true, not, _&&_, _||_};
-ghost use Prim.Native.Nat.{_≤_};
 ghost use lib.Dec.{eqb};
 ghost use lib.Ieee.{lt, ne};
 ghost use lib.Ieee.Scale.{finite};

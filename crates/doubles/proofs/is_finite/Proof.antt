@@ -1,7 +1,7 @@
 -- `doubles::is_finite` meets its contract: what is finite lies between the two infinities, and nothing else does.
 use mathlib.Core.Path.{_≡_, refl, sym}
 use mathlib.Core.Bool.{true, false}
-use lib.Ieee.{Float, nan, inf, fin, binary64, div, neg, lt, ofBits}
+use lib.Ieee.{Float, nan, inf, fin, div, neg, lt, ofBits}
 use lib.Ieee.Scale.{finite}
 use Rattle.doubles.proofs.is_finite.Statement.{statement}
 use Rattle.doubles.proofs.is_finite.Tie as tie

@@ -1,5 +1,5 @@
 -- `doubles::is_within` meets its contract: its tests are the definition's.
-use mathlib.Core.Path.{_≡_, sym, ap, _∙_}
+use mathlib.Core.Path.{sym, ap, _∙_}
 use mathlib.Core.Bool.{_&&_}
 use lib.Ieee.{le}
 use Rattle.doubles.specs.Doubles.{one, within}

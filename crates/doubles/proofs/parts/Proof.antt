@@ -1,13 +1,10 @@
 -- `doubles::parts` meets its contract: `PartLaws` says what the shifted digits of the bits are.
-use Prim.Native.Nat.{_≤_, _<_, _+_, _-_, _/_, _%_, _^_}
-use mathlib.Core.Path.{_≡_, sym, subst}
-use mathlib.Core.Bool.{true}
+use mathlib.Core.Path.{sym, subst}
 use native.Mathlib.Omega.{arith}
 use borrow.Author.Needs.{needs}
 use lib.Dec.{T}
 use lib.Ieee.{Float, binary64, fits}
 use Rattle.model.specs.Scale.{S}
-use Rattle.doubles.specs.Doubles.{within}
 use Rattle.doubles.proofs.PartLaws.{no-nan, exponent-fits, less-than-one, shifted, parts-fit}
 use Rattle.doubles.proofs.parts.Statement.{statement}
 use Rattle.doubles.proofs.parts.Tie as tie

@@ -1,6 +1,6 @@
 -- `sheet::read` meets its contract. The row is stored to on the last path alone, where nothing is refused.
-use Prim.Native.Nat.{ℕ, _<_, _≤_}
-use mathlib.Core.Path.{_≡_, refl, sym, ap, ap₂, _∙_}
+use Prim.Native.Nat.{ℕ}
+use mathlib.Core.Path.{_≡_, sym, ap, ap₂, _∙_}
 use mathlib.Core.List.{List, _++_}
 use native.Mathlib.Omega.{arith}
 use borrow.Author.Needs.{needs}
@@ -13,7 +13,6 @@ use Rattle.codec.specs.Answers.{no-head}
 use Rattle.codec.proofs.Answered.{read-as, head-answered, head-refused, filled, kept}
 use Rattle.sheet.specs.Sheet.{sheet-of, sheet-head}
 use Rattle.sheet.specs.Rules.{sheet-row}
-use Rattle.sheet.specs.Terms.{MakesPlan}
 use Rattle.sheet.specs.Refusal.{sheet-checks, sheet-refusal}
 use Rattle.sheet.specs.Answers.{plan-head, sheet-answer, sheet-row-after}
 use Rattle.sheet.proofs.CheckLaws.{SheetFacts, sheet-facts, refused-early, refused-short, accepted}

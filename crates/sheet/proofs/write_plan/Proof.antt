@@ -6,10 +6,9 @@ use native.Mathlib.Omega.{arith}
 use borrow.Author.Needs.{needs}
 use lib.ListN.{length, take, drop, length-append}
 use lib.Seq.{length-take-le, take-at}
-use Rattle.model.specs.Limits.{row-room}
 use Rattle.model.specs.Plan.{row-length}
 use Rattle.model.specs.Format.{byte-length, bytes-of}
-use Rattle.model.specs.Refusal.{first, HeadAccepted}
+use Rattle.model.specs.Refusal.{first}
 use Rattle.codec.specs.Answers.{length-answer, filled-after, write-answer, bytes-after}
 use Rattle.codec.proofs.Answered.{written-as, head-answered, head-number, length-refused, filled, kept}
 use Rattle.sheet.specs.Sheet.{sheet-of}

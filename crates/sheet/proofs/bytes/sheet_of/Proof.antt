@@ -1,5 +1,5 @@
 -- `bytes::sheet_of` meets its contract: a field for each of its numbers, and the rule of the first two doubles.
-use mathlib.Core.Path.{_≡_, _∙_}
+use mathlib.Core.Path.{_∙_}
 use mathlib.Core.Bool.{cond}
 use borrow.Author.Needs.{needs}
 use lib.Dec.{eqb}

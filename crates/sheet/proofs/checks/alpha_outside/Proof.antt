@@ -1,5 +1,5 @@
 -- `checks::alpha_outside` meets its contract.
-use mathlib.Core.Path.{_≡_, sym, ap, _∙_}
+use mathlib.Core.Path.{sym, ap, _∙_}
 use mathlib.Core.Bool.{not, _||_}
 use lib.Ieee.{lt}
 use Rattle.doubles.specs.Doubles.{one}

@@ -1,9 +1,7 @@
 -- `checks::level_steps` meets its contract.
-use mathlib.Core.Path.{sym, ap, _∙_}
-use mathlib.Core.Bool.{_&&_}
+use mathlib.Core.Path.{ap}
 use borrow.Author.Tests.{eq-eqb, ne-eqb}
 use lib.Ieee.{ne}
-use Rattle.doubles.specs.Doubles.{nought}
 use Rattle.doubles.proofs.RangeLaws.{literal-zero}
 use Rattle.sheet.proofs.checks.level_steps.Statement.{statement}
 use Rattle.sheet.proofs.checks.level_steps.Tie as tie

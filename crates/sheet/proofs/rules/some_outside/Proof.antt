@@ -1,5 +1,5 @@
 -- `rules::some_outside` meets its contract. The invariant: the chances of the months passed are within.
-use Prim.Native.Nat.{ℕ, suc, _+_, _-_, _≤_, _<_}
+use Prim.Native.Nat.{ℕ, suc, _-_, _≤_, _<_}
 use mathlib.Core.Path.{_≡_, sym, ap, _∙_}
 use mathlib.Core.Bool.{Bool, false, not}
 use native.Mathlib.Numerals.{add-one}
