@@ -20,6 +20,7 @@ use Rattle.sheet.specs.Sheet.{sheet-length, kind-of, first-of, step-of, 
 use Rattle.sheet.specs.Rules.{repeated, chance, weight, chances, weights, tail, size-part, sheet-row}
 use Rattle.sheet.specs.Refusal.{kind-checks, rule-checks, weight-checks, sheet-checks, sheet-refusal}
 use Rattle.sheet.specs.Answers.{plan-head, plan-row, sheet-answer, sheet-row-after, plan-answer, plan-bytes-after}
+use Rattle.sheet.proofs.RuleLaws.{level-chance, ramp-chance}
 
 -- two sheets that are the same but for the signs of zeros
 pub record SameButSigns (x y : List ℕ) : Type 0 where
@@ -46,9 +47,8 @@ module _ {a b : Float} (alpha-alike : Alike a b) where
 chosen-alike :
     (level : Bool) {f f′ s s′ : Float} → Alike f f′ → Alike s s′ → (i : ℕ)
     → Alike (chance (cond level (Level f) (Ramp f s)) i) (chance (cond level (Level f′) (Ramp f′ s′)) i)
-unfolding chance
-chosen-alike true first step i = first
-chosen-alike false first step i = add-alike first (mul-alike (same refl) step)
+chosen-alike true {f} {f′} first step i = rw (level-chance f i, level-chance f′ i) first
+chosen-alike false {f} {f′} {s} {s′} first step i = rw (ramp-chance f s i, ramp-chance f′ s′ i) (add-alike first (mul-alike (same refl) step))
 
 module _ (x y : List ℕ) (alike : SameButSigns x y) where
   chance-alike : (i : ℕ) → Alike (chance (rule-of x) i) (chance (rule-of y) i)

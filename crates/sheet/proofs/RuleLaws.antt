@@ -6,7 +6,8 @@ use mathlib.Core.List.{List, [], _∷_, _++_, append-nil}
 use native.Mathlib.Numerals.{add-one}
 use native.Mathlib.Omega.{arith}
 use borrow.Author.Tests.{not-false}
-use lib.Ieee.{Float, binary64, sub, mul}
+use lib.IntN.{pos}
+use lib.Ieee.{Float, binary64, ofInt, add, sub, mul}
 use lib.ListN.{length, getD, drop, set, length-append, drop-of-length-le}
 use lib.Seq.{getD-append-add, drop-cons, set-at, take-at, drop-at}
 use borrow.Rule.Slice.PartMut.{putMid}
@@ -21,6 +22,7 @@ use Rattle.doubles.specs.Doubles.{one, within, parts}
 use Rattle.doubles.proofs.RangeLaws.{within-rest, within-product}
 use Rattle.doubles.proofs.PartLaws.{parts-fit}
 use Rattle.sheet.specs.declared.ChanceRule.{ChanceRule}
+use Rattle.sheet.specs.declared.ChanceRule.the-variants.{Level, Ramp}
 use Rattle.sheet.specs.declared.RuleSheet.{RuleSheet}
 use Rattle.sheet.specs.Sheet.{sheet-head}
 use Rattle.sheet.specs.Rules.{chance, repeated, weight, chances, weights, tail, size-part, sheet-row}
@@ -98,6 +100,15 @@ module _ (alpha : Float) (sizes : ℕ) where
         before .summed ∙ weight-sum-whole alpha passed ∙ ap (λ n. total (weights alpha n)) whole
 
 -- ---- the chances
+
+-- by either rule
+pub level-chance : (first : Float) (i : ℕ) → chance (Level first) i ≡ first
+unfolding chance
+level-chance first i = refl
+
+pub ramp-chance : (first step : Float) (i : ℕ) → chance (Ramp first step) i ≡ add binary64 first (mul binary64 (ofInt binary64 (pos (i - 1))) step)
+unfolding chance
+ramp-chance first step i = refl
 
 -- where none is outside, each is within
 pub chance-within :

@@ -99,7 +99,7 @@ returns-2 c =
     let is = refused-short (bytes-at made) (row-length (plan-head (bytes-at made))) (length (row-at made)) (none (passed (head-made (at-test .before))))
     (omega (arith, count-is (at-test .before), at-test .if2 .taken)) in
     let both = refused (bytes-at made) (row-at made) 11 is (λ z. omega (arith, z)) in
-    (answer _ _ (c .no-plan2 .ensures) ∙ both .0, both .1)
+    (answer _ 11 (c .no-plan2 .ensures) ∙ both .0, both .1)
 
 slice-relend-prefix-put-row : tie.Need-slice-relend-prefix-put-row
 slice-relend-prefix-put-row c = search needs

@@ -13,7 +13,7 @@ use Rattle.codec.specs.Answers.{length-answer, filled-after, write-answer, byte
 use Rattle.codec.proofs.Answered.{written-as, head-answered, head-number, length-refused, filled, kept}
 use Rattle.sheet.specs.Sheet.{sheet-of}
 use Rattle.sheet.specs.Refusal.{sheet-checks, sheet-refusal}
-use Rattle.sheet.specs.Answers.{plan-head, plan-row}
+use Rattle.sheet.specs.Answers.{plan-head, plan-row, plan-answer}
 use Rattle.sheet.proofs.RuleLaws.{row-is}
 use Rattle.sheet.proofs.CheckLaws.{sheet-facts, refused-early}
 use Rattle.sheet.proofs.Theorems.{read-number, write-number, plan-fits}
@@ -59,10 +59,10 @@ returns c =
     let needed = byte-length (plan-head (bytes-at made)) in
     let some : first (sheet-checks (bytes-at made)) ≡ 0 → ⊥ = λ z. c .if1 .taken (number-is made ∙ z) in
     let is = refused-early (bytes-at made) needed (length (plan-at made)) some in
-    let some-here : sheet-refusal (bytes-at made) needed (length (plan-at made)) ≡ 0 → ⊥ = λ z. some (sym is ∙ z) in (
-      ap (λ n. written-as n 0) (number-is made ∙ sym is) ∙ sym (length-refused _ _ some-here),
-      (sym (kept _ _ _ _ some-here), (omega arith, refl)),
-    )
+    let some-here : sheet-refusal (bytes-at made) needed (length (plan-at made)) ≡ 0 → ⊥ = λ z. some (sym is ∙ z) in
+    let answered : written-as (made .read .result .refusal) 0 ≡ plan-answer (bytes-at made) (length (plan-at made)) =
+    ap (λ n. written-as n 0) (number-is made ∙ sym is) ∙ sym (length-refused _ _ some-here) in
+    (answered, (sym (kept _ _ _ _ some-here), (omega arith, refl)))
 
 abbrev accepted-read : tie.Else1 → tie.After-read
 accepted-read c = c .before .before

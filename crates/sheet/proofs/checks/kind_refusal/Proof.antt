@@ -7,7 +7,7 @@ use Rattle.sheet.proofs.checks.kind_refusal.Statement.{statement}
 use Rattle.sheet.proofs.checks.kind_refusal.Tie as tie
 
 returns : tie.Need-returns
-returns c = sym (not-a-sheet _ (c .if1 .taken))
+returns c = sym (not-a-sheet (c .before .before .args .bytes .now) (c .if1 .taken))
 
 big-endian-requires : tie.Need-big-endian-requires
 big-endian-requires c κs = search needs

@@ -1,11 +1,12 @@
 -- `rules::chance` meets its contract. A month's number is a double exactly.
 use Prim.Native.Nat.{_-_, _^_}
-use mathlib.Core.Path.{sym, ap}
+use mathlib.Core.Path.{sym, ap, _∙_}
 use native.Mathlib.Omega.{arith}
 use borrow.Author.Needs.{needs}
 use lib.Dec.{le→leb}
 use lib.Ieee.{inFloat}
 use Rattle.sheet.specs.Rules.{chance}
+use Rattle.sheet.proofs.RuleLaws.{level-chance, ramp-chance}
 use Rattle.sheet.proofs.rules.chance.Statement.{statement}
 use Rattle.sheet.proofs.rules.chance.Tie as tie
 
@@ -24,13 +25,14 @@ int-to-float-result c =
     unfold inFloat in le→leb (month - 1) (2 ^ 53) (omega (arith, c .before .before .before .before .pre))
 
 returns : tie.Need-returns
-unfolding chance
-returns c = sym (ap (λ rule. chance rule (c .before .before .before .args .month)) (c .before .rule .given .1))
+returns c =
+    let month = c .before .before .before .args .month in
+    sym (ap (λ rule. chance rule month) (c .before .rule .given .1) ∙ level-chance _ month)
 
 returns-2 : tie.Need-returns-2
-unfolding chance
 returns-2 c =
-    sym (ap (λ rule. chance rule (c .before .before .before .before .args .month)) (c .before .before .rule2 .given .1))
+    let month = c .before .before .before .before .args .month in
+    sym (ap (λ rule. chance rule month) (c .before .before .rule2 .given .1) ∙ ramp-chance _ _ month)
 
 pub chance-spec : {M : Type 1} → statement M
 chance-spec =

@@ -47,17 +47,21 @@ weights-total-requires c κs = search needs
 abbrev lent : tie.After-weights-total → tie.After-put-weights-arg
 lent c = c .before .before .before .before
 
--- the weights do not pass the scale
+-- what was summed: the weights of all sizes
+summed : (c : tie.After-weights-total) → c .weights-total .result ≡ total (weights (alpha-at (lent c)) (length (row-at (lent c)) - 1))
+summed c = c .weights-total .ensures
+
+-- they do not pass the scale
 fits : (c : tie.After-weights-total) → total (weights (alpha-at (lent c)) (length (row-at (lent c)) - 1)) ≤ S
 fits c = weights-never-pass (alpha-at (lent c)) (start (lent c) .pre .2) _ (start (lent c) .pre .1)
 
 cast-row : tie.Need-cast-row
 unfolding S
-cast-row c = omega (arith, c .weights-total .ensures, fits c)
+cast-row c = omega (arith, summed c, fits c)
 
 sub-row : tie.Need-sub-row
 unfolding S
-sub-row c = omega (arith, c .weights-total .ensures, fits c)
+sub-row c = omega (arith, summed c, fits c)
 
 mul-row : tie.Need-mul-row
 mul-row c = search needs
@@ -75,7 +79,7 @@ returns c =
     let m = length row - 1 in
     let alpha = alpha-at (lent c) in
     let stored = c .before .before .before .put-weights .ensures ∙ ap (weights alpha) (lent-length (lent c)) in
-    ap₂ (λ w v. set (w ++ drop m row) m v) stored (ap (λ t. S - t) (c .weights-total .ensures))
+    ap₂ (λ w v. set (w ++ drop m row) m v) stored (ap (λ t. S - t) (summed c))
     ∙ sizes-stored alpha row m (omega (arith, start (lent c) .pre .0))
 
 pub put-sizes-spec : {M : Type 1} → statement M

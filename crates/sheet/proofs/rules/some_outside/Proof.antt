@@ -1,5 +1,5 @@
 -- `rules::some_outside` meets its contract. The invariant: the chances of the months passed are within.
-use Prim.Native.Nat.{ℕ, suc, _-_, _≤_, _<_}
+use Prim.Native.Nat.{ℕ, suc, _+_, _-_, _≤_, _<_}
 use mathlib.Core.Path.{_≡_, sym, ap, _∙_}
 use mathlib.Core.Bool.{Bool, false, not}
 use native.Mathlib.Numerals.{add-one}
@@ -32,8 +32,10 @@ tested :
     (c : tie.After-is-within Inv-loop μ-loop)
     → not (c .is-within .result) ≡ outside (at-loop c .before .args .rule) (suc (at-loop c .loop .passed))
 tested c =
-    ap not
-    (c .is-within .ensures ∙ ap within (c .before .chance .ensures ∙ ap (Rules·chance (at-loop c .before .args .rule)) (add-one (at-loop c .loop .passed))))
+    let rule = at-loop c .before .args .rule in
+    let passed = at-loop c .loop .passed in
+    let of-month : c .before .chance .result ≡ Rules·chance rule (passed + 1) = c .before .chance .ensures in
+    ap not (c .is-within .ensures ∙ ap within (of-month ∙ ap (Rules·chance rule) (add-one passed)))
 
 loop-holds : tie.Need-loop-holds Inv-loop μ-loop
 loop-holds c = (search needs, below-none _)
