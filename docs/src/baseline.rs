@@ -229,8 +229,11 @@ fn carried_back(plan: &Plan, question: Question, months: usize, add: u64, rows: 
     rows[rows.len() - span + plan.opening]
 }
 
-/// V_0(u) in one rounding.
+/// V_0(u) in one rounding, taken as 0 where the opening is above the level of high.
 fn value(plan: &Plan, question: Question, add: u64, rows: &mut [u32]) -> u32 {
+    if matches!(question, Question::High(level) if plan.opening > level) {
+        return 0;
+    }
     let span = plan.opening + plan.chances.len() + 1;
     rows.fill(0);
     rows[..span].fill(S as u32);

@@ -87,6 +87,20 @@ def room_edges():
                 yield Ask(*plan, question, room)
 
 
+def opening_edges():
+    """Levels around the opening: high is 0, 0 below it, with no months too, and low does not look at it."""
+    for n, u in itertools.product((0, 1, 3, MONTHS), (0, 1, 5, OPENING)):
+        levels = sorted({0, 1, u - 1, u, u + 1, u + n - 1, u + n, LEVEL} - {-1})
+        for word, level in itertools.product(("high", "low"), levels):
+            yield Ask(*flat(n, u, 2), Question(word, level))
+    for n in (0, 3):  # a level below the opening, with workspaces around what is needed
+        plan, question = flat(n, 4, 5), Question("high", 3)
+        needed = workspace_needed(plan[0], question)
+        for room in (0, 1, needed - 1, needed, needed + 1, needed + 40):
+            yield Ask(*plan, question, room)
+    yield from fault_pairs(Question("high", 3), Question("high", LEVEL + 1))
+
+
 # What turns a row of BRIEF away, by number.
 ROW_FAULTS = {
     7: lambda row: changed(row, 0, S + 1),
@@ -242,6 +256,13 @@ def add_random_plans(calls, rng, own):
         add_random_asks(calls, own, head, row, (fails(t) for t in (1, 2, n // 2, n - 1, n) if t in all_months(head)))
 
 
+def add_openings(calls):
+    for ask in opening_edges():
+        calls.ask(*ask)
+    for fill in (0, 1, S, 2**31, FULL_NUMBER):
+        calls.ask(*BRIEF, Question("high", 3), workspace_needed(BRIEF[0], SURVIVE) + 3, fill)
+
+
 def add_claim_sums(calls, rng):
     """Ranges from none to all values, and one past them."""
     for head, row in claim_plans(rng):
@@ -261,6 +282,7 @@ def all_calls():
     add_lent_memory(calls)
     add_random_plans(calls, random.Random(1), random.Random(5))
     add_claim_sums(calls, random.Random(7))
+    add_openings(calls)
     return calls
 
 

@@ -14,7 +14,7 @@ from rules import S
 
 NO_CLAIM, TAIL = 0, math.inf  # a month's event is one of these (TAIL is an over claim) or a claim's size
 
-Outcome = namedtuple("Outcome", "weight path claims")  # of a history; the path is U_1 to U_n
+Outcome = namedtuple("Outcome", "weight opening path claims")  # of a history; the path is U_1 to U_n
 
 
 def events(plan):
@@ -38,7 +38,7 @@ def path(plan, history):
 
 def outcome(plan, history):
     weight = math.prod(month_weight(plan, chance, event) for chance, event in zip(plan.chances, history))
-    return Outcome(weight, path(plan, history), sum(event != NO_CLAIM for event in history))
+    return Outcome(weight, plan.head.opening, path(plan, history), sum(event != NO_CLAIM for event in history))
 
 
 def outcomes(plan):
@@ -54,10 +54,15 @@ def level_kept(question, level):
     return 0 < level
 
 
+def opening_kept(question, opening):
+    """Whether the fund may open so: "high L holds only if u is at most L as well"; U_0 does not count in low."""
+    return question.word != "high" or opening <= question.number
+
+
 def keeps(question, one):
-    """Whether the outcome keeps the question's condition. U_0 does not count."""
+    """Whether the outcome keeps the question's condition."""
     placed = question.word != "both" or one.claims == question.number
-    return placed and all(level_kept(question, level) for level in one.path)
+    return placed and opening_kept(question, one.opening) and all(level_kept(question, level) for level in one.path)
 
 
 def question_weight(listed, question):
@@ -104,6 +109,8 @@ def carried_weight(plan, question):
         level, claims = state[0] + 1 - event, state[1] + (tallied and event != NO_CLAIM)
         return (level, claims) if level_kept(question, level) and claims <= question.number else None
 
+    if not opening_kept(question, plan.head.opening):
+        return 0
     weights = carried(plan, (plan.head.opening, 0), following)
     return sum(weight for (_, claims), weight in weights.items() if not tallied or claims == question.number)
 

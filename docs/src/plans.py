@@ -36,7 +36,7 @@ WORKED = [  # "Funds worked by hand": head, row, question, refusal, lower, upper
     (Head(2, 1, 2), [1, 1, 1, S - 1, 0], SURVIVE, 0, 1073741823, 1073741824),
     (Head(1, 5, 1), [0] + ONE_SIZE, Question("high", 5), 0, 0, 0),
     (Head(1, 5, 1), [0] + ONE_SIZE, Question("high", 6), 0, S, S),
-    (Head(1, 5, 2), [S // 2, 0, S, 0], Question("high", 4), 0, S // 2, S // 2),
+    (Head(1, 5, 2), [S // 2, 0, S, 0], Question("high", 4), 0, 0, 0),  # as document 02 has it
     (*EXAMPLE, SURVIVE, 0, 738197504, 738197504),
     (*EXAMPLE, Question("both", 1), 0, 402653184, 402653184),
     (*EXAMPLE, Question("low", 2), 0, 402653184, 402653184),

@@ -202,7 +202,9 @@ def carried_back(plan, question, months, rows, divide):
 
 
 def month_rule(plan, question, divide):
-    """V_0(u)."""
+    """V_0(u); for high it "is then also taken as 0 where u is above L"."""
+    if question.word == "high" and plan.head.opening > question.number:
+        return 0
     return carried_back(plan, question, plan.head.months, last_rows(plan, question), divide)
 
 

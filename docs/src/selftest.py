@@ -7,7 +7,7 @@ import struct
 from fractions import Fraction
 
 from exact import carried_counts, carried_failures, carried_weight, claim_chance, count_weight, encloses, failure_weight, first_claim_both
-from exact import first_claim_survival, keeps_gap, outcomes, question_weight
+from exact import first_claim_survival, keeps_gap, level_kept, outcomes, question_weight
 from plans import EXAMPLE, EXAMPLE_BYTES, EXAMPLE_TEXT, WORKED, flat, gapped, geometric_plan, lasting_plan, questions, some_chance, some_plan
 from plans import split, timed_plans
 from rules import CLAIMS, LARGEST, MONTHS, MOST_ASKED, OPENING, PLACES, S, SIZES, SURVIVE, Head, Question, all_months, ask_checks, bounds
@@ -80,6 +80,20 @@ def check_question(tally, plan, listed, question):
         tally.check("Theorem 3.2 is W", first_claim_both(p, f, opening, question.number) * whole == weight, about)
 
 
+def check_opening(tally, plan, listed, level):
+    """The opening in high, and in low, where it has no part."""
+    high, low, opening = Question("high", level), Question("low", level), plan.head.opening
+    highs, lows = (sum(one.weight for one in listed if all(level_kept(question, u) for u in one.path)) for question in (high, low))
+    if opening <= level:
+        tally.check("high: at least the opening, it has no part", question_weight(listed, high) == highs, (plan, level))
+    else:
+        tally.check("high: below the opening, nothing", question_weight(listed, high) == 0 and bounds(plan, high) == (0, 0), (plan, level))
+    tally.check("low: the opening has no part", question_weight(listed, low) == lows, (plan, level))
+    if plan.head.months == 0:
+        tally.check("no months: high", bounds(plan, high) == ((S, S) if opening <= level else (0, 0)), (plan, level))
+        tally.check("no months: low", bounds(plan, low) == (S, S), (plan, level))
+
+
 def check_count_row(tally, plan, listed):
     whole = S ** (2 * len(plan.chances))
     rows = [count_row(plan, divide) for divide in (down, up, unrounded)]
@@ -124,6 +138,8 @@ def check_plan(tally, plan):
     tally.check("an over claim of the least size ruins", plan.tail == 0 or largest_level(head) - (head.sizes + 1) <= 0, plan)
     for question in questions(head):
         check_question(tally, plan, listed, question)
+    for level in range(largest_level(head) + 2):
+        check_opening(tally, plan, listed, level)
     check_count_row(tally, plan, listed)
     check_listed_failures(tally, plan, listed)
 

@@ -1,6 +1,6 @@
 -- Laws of an answer that has two bounds: refused or worked out, the parts as they are lent, the last rows, and the value that they give.
 use mathlib.Core.Path.{_≡_, refl, sym, _∙_, ap}
-use mathlib.Core.Bool.{false}
+use mathlib.Core.Bool.{true, false}
 use mathlib.Core.List.{List, _++_}
 use Prim.Native.Nat.{ℕ, zero, suc, _+_, _*_, _-_, _≤_, _<_}
 use native.Mathlib.Nat.{le-refl, mul-assoc, mul-comm, one-mul, sub-zero, zero-add, zero-mul}
@@ -15,12 +15,13 @@ use Rattle.model.specs.declared.Question.the-variants.{Survive}
 use Rattle.model.specs.Scale.{Rounding}
 use Rattle.model.specs.Plan.{Plan, nth, plan-of, row-length}
 use Rattle.model.specs.Levels.{largest-level, row-levels}
-use Rattle.model.specs.MonthRule.{month, values, value, all-placed, last-of, ruin-row, carried-back}
+use Rattle.model.specs.MonthRule.{month, values, all-placed, last-of, opening-allowed, ruin-row, carried-back}
 use Rattle.model.specs.Bounds.{Encloses, bound, ruin-bound}
 use Rattle.model.specs.Refusal.{outside, rows-needed, workspace-needed}
 use Rattle.model.proofs.LevelLaws.{level-later}
 use Rattle.model.proofs.Facts.{Facts, horizon-is}
 use Rattle.model.proofs.Rooms.{rows-few}
+use Rattle.model.proofs.Opening.{value-allowed, value-forbidden}
 use Rattle.engine.specs.declared.Answer.{Answer}
 use Rattle.engine.specs.declared.bounds.LastRows.{LastRows}
 use Rattle.engine.specs.declared.bounds.LastRows.the-variants.{Placed, Ruin}
@@ -168,18 +169,25 @@ ruin-in last P e round F tail shape top xs xs′ one same h = record { each = ea
     past : (k : ℕ) → k < shape .rows → (i : ℕ) → top < i → i < shape .width → getD (drop ((shape .rows - 1 - k) * shape .width) xs′) i 0 ≡ past-last last k
     past k l i a b = rw (e, same, first k l) (h .later i (omega arith) ∙ getD-replicate (shape .width) i 0 0 b)
 
--- The value at the opening is the question's bound, where all months are worked …
+-- The value at the opening is the question's bound, where the question allows the opening and all months are worked …
 pub bound-is :
-    (round : Rounding) (h : Head) (row : List ℕ) → length row ≡ row-length h → (q : Question) → outside q ≡ false →
+    (round : Rounding) (h : Head) (row : List ℕ) → length row ≡ row-length h → (q : Question) → outside q ≡ false → opening-allowed q (h .opening) ≡ true →
     (width : ℕ) → width ≡ row-levels (h .opening) (h .months) →
     opening-value round (plan-of h row) (h .months) (shape-of q width) Placed ≡ bound round (plan-of h row) q
-unfolding bound value last-rows plan-of
-bound-is round h row row-is q inside width ew =
+unfolding bound last-rows plan-of
+bound-is round h row row-is q inside allowed width ew =
     let some-row : 0 < shape-of q width .rows = omega (arith, shape-rows q width, rows-few q inside) in
     let months = horizon-is h row row-is in
     rw (take-all (h .months) (plan-of h row .chances) (omega (arith, months)))
     (shape-value round (plan-of h row .severity) (plan-of h row .chances) q (plan-of h row .opening) (largest-level (h .opening) (h .months)) width ew
     (rw months (le-refl (largest-level (h .opening) (h .months)))) some-row all-placed (last-of q) (λ k l s. last-agree q width k l s))
+    ∙ sym (value-allowed (month round (plan-of h row .severity)) (plan-of h row) q allowed)
+
+-- … which is 0 where the question forbids the opening, …
+pub bound-none :
+    (round : Rounding) (h : Head) (row : List ℕ) (q : Question) → opening-allowed q (h .opening) ≡ false → 0 ≡ bound round (plan-of h row) q
+unfolding bound plan-of
+bound-none round h row q forbidden = sym (value-forbidden (month round (plan-of h row .severity)) (plan-of h row) q forbidden)
 
 -- the chance of a month, as it lies in the row
 pub chance-is : (h : Head) (row : List ℕ) (t : ℕ) → 0 < t → t ≤ h .months → getD row (t - 1) 0 ≡ nth (plan-of h row .chances) t

@@ -5,14 +5,15 @@ use Prim.Native.Nat.{ℕ, zero, suc, _+_, _≤_, _<_}
 use native.Mathlib.Omega.{arith}
 use borrow.Author.Tests.{ne-eqb}
 use Rattle.model.specs.declared.Head.{Head}
-use Rattle.model.specs.declared.Question.the-variants.{Survive}
-use Rattle.model.specs.Scale.{S}
+use Rattle.model.specs.declared.Question.the-variants.{Survive, High}
+use Rattle.model.specs.Scale.{S, down, up}
 use Rattle.model.specs.Sums.{sum}
 use Rattle.model.specs.Plan.{plan-of, horizon}
 use Rattle.model.specs.Bounds.{lower, upper, ruin-lower, ruin-upper}
-use Rattle.model.specs.Refusal.{Accepted}
+use Rattle.model.specs.Refusal.{Accepted, ask-refusal}
 use Rattle.model.proofs.SumLaws.{sum-ext}
 use Rattle.model.proofs.Facts.{facts, horizon-is}
+use Rattle.model.proofs.Opening.{high-exceeded}
 use Rattle.model.proofs.Theorems.{whole-between}
 use Rattle.engine.specs.declared.Answer.{Answer}
 use Rattle.engine.specs.Answers.{refused, bounds-answer, answer, ruin-answer}
@@ -27,6 +28,21 @@ number-is (suc n) low high = rw (ne-eqb (suc n) 0 (λ z. omega (arith, z)))
 bounds-are : (number low high : ℕ) → bounds-answer number low high .refusal ≡ 0 → (bounds-answer number low high .lower ≡ low) × (bounds-answer number low high .upper ≡ high)
 unfolding bounds-answer
 bounds-are number low high e = rw (sym (number-is number low high) ∙ e) (refl, refl)
+
+-- bounds of 0 are answered with zeros, as a refusal is
+zeros-are : (number low high : ℕ) → low ≡ 0 → high ≡ 0 → bounds-answer number low high ≡ refused number
+unfolding bounds-answer refused
+zeros-are zero low high el eh = rw (el, eh)
+zeros-are (suc n) low high el eh = rw (ne-eqb (suc n) 0 (λ z. omega (arith, z)))
+
+-- "The treasurer's deposit cap now binds on opening day": asked high of a level below the opening, the call answers with zeros, whether it refuses or not.
+pub high-below-the-opening :
+    (h : Head) (row : List ℕ) (room L : ℕ) → L < h .opening →
+    answer (record { head = h; question = High L }) row room ≡ refused (ask-refusal (record { head = h; question = High L }) row room)
+unfolding answer plan-of
+high-below-the-opening h row room L l =
+    let none = high-exceeded (plan-of h row) L l .1 in
+    zeros-are (ask-refusal (record { head = h; question = High L }) row room) _ _ (none down) (none up)
 
 -- "The exact chances of all months and of survival make up the whole, so S lies between the two totals once the survival bounds are added": of one plan
 -- survival is asked, and ruin in each month, each call with a workspace of its own length; where none is refused, the numbers answered keep to it.

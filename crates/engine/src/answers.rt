@@ -4,9 +4,10 @@ use crate::bounds::LastRows;
 use crate::bounds::bounds_from;
 use model::Head;
 use month_rule::rows::Shape;
+use month_rule::rows::fill;
 ghost use mathlib.Core.Path.{_≡_};
 ghost use mathlib.Core.List.{_++_};
-ghost use Prim.Native.Nat.{_*_};
+ghost use Prim.Native.Nat.{_*_, _≤_};
 ghost use lib.ListN.{length, drop, replicate};
 ghost use Rattle.model.specs.Scale.{down, up};
 ghost use Rattle.model.specs.Plan.{plan-of};
@@ -23,6 +24,22 @@ pub fn refused(refusal: u32) -> Answer
         refusal,
         lower: 0,
         upper: 0,
+    }
+}
+
+// The answer where the question forbids the opening: both bounds are 0 with no month worked, and the needed part of the workspace is all 0 as after
+// any other answer.
+pub fn none_allowed(needed: usize, workspace: &mut [u32]) -> Answer
+    requires { ⌜ needed ≤ length (now workspace) ⌝ }
+    ensures answered { λ r. ⌜ r ≡ bounds-answer 0 0 0 ⌝ }
+    ensures cleared { λ _. ⌜ now (workspace .exit) ≡ replicate needed 0 ++ drop needed (now (workspace .entry)) ⌝ }
+{
+    fill(&mut workspace[..needed], 0);
+    let chance = 0;
+    Answer {
+        refusal: 0,
+        lower: chance,
+        upper: chance,
     }
 }
 

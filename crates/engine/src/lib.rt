@@ -5,10 +5,13 @@ mod counts;
 mod questions;
 mod refusals;
 
+use crate::answers::none_allowed;
 use crate::answers::refused;
 use crate::answers::work_out;
 use crate::bounds::LastRows;
+use crate::questions::opening_allowed;
 use crate::questions::shape_of;
+use crate::questions::workspace_needed;
 use model::Ask;
 use model::Head;
 use model::Question;
@@ -43,7 +46,8 @@ pub struct CountAnswer {
 }
 
 // Answers one question about the plan of the ask's head and the row. The workspace needs twice the levels of a row, 2 × (opening + months + 1) numbers,
-// for both k that times k + 1; whatever it holds, that part is 0 after an answer, and nothing else changes.
+// for both k that times k + 1; whatever it holds, that part is 0 after an answer, and nothing else changes. High below the opening is known at once: no
+// month is worked for it.
 pub fn ask(ask: Ask, row: &[u32], workspace: &mut [u32]) -> Answer
     ensures answered { λ r. ⌜ r ≡ answer ask (now (row .entry)) (length (now (workspace .entry))) ⌝ }
     ensures cleared { λ _. ⌜ now (workspace .exit) ≡ workspace-after ask (now (row .entry)) (now (workspace .entry)) ⌝ }
@@ -58,6 +62,9 @@ pub fn ask(ask: Ask, row: &[u32], workspace: &mut [u32]) -> Answer
     }
     let head = ask.head;
     let question = ask.question;
+    if !opening_allowed(question, head.opening) {
+        return none_allowed(workspace_needed(ask), workspace);
+    }
     let shape = shape_of(question, row_levels(head));
     work_out(head, head.months, shape, LastRows::Placed, row, workspace)
 }

@@ -4,6 +4,7 @@ use model::Question;
 use model::limits;
 ghost use mathlib.Core.Path.{_≡_};
 ghost use mathlib.Core.Bool.{false};
+ghost use Rattle.model.specs.MonthRule.{opening-allowed};
 ghost use Rattle.model.specs.Refusal.{HeadAccepted, outside, workspace-needed};
 ghost use Rattle.engine.specs.Questions.{shape-of};
 use month_rule::rows::Shape;
@@ -17,6 +18,18 @@ pub fn is_outside(question: Question) -> bool
         Question::Both(k) => limits::CLAIMS < k,
         Question::High(level) => limits::LEVEL < level,
         Question::Low(level) => limits::LEVEL < level,
+    }
+}
+
+// Whether a question lets the fund open so: only high looks at the opening, which its level caps too.
+pub fn opening_allowed(question: Question, opening: usize) -> bool
+    ensures { λ r. ⌜ r ≡ opening-allowed question opening ⌝ }
+{
+    match question {
+        Question::Survive => true,
+        Question::Both(_) => true,
+        Question::High(level) => opening <= level,
+        Question::Low(_) => true,
     }
 }
 

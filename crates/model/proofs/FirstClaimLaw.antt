@@ -11,7 +11,7 @@ use Rattle.model.specs.Scale.{S}
 use Rattle.model.specs.Sums.{sum, product}
 use Rattle.model.specs.Plan.{Plan, nth}
 use Rattle.model.specs.Levels.{gain}
-use Rattle.model.specs.MonthRule.{Row, claim-sum, exact-month, kept, claimed-row, month-back, values, value, rule-of, last-of, claims-of}
+use Rattle.model.specs.MonthRule.{Row, claim-sum, exact-month, kept, claimed-row, month-back, values, value, rule-of, last-of, claims-of, opening-allowed}
 use Rattle.model.specs.FirstClaim.{first-claim-in, some-claim, first-claim, first-claim-survival}
 use Rattle.model.proofs.SumLaws.{sum-ext, product-ext, sum-cut, sum-times, pow-two-more}
 use Rattle.model.proofs.Month.{claim-sum-times}
@@ -197,5 +197,5 @@ first-claim-is F (suc turns) Ps l hP u =
 -- Theorem 2.1, both sides multiplied by S^(2n) and the rule's value in parts of S
 pub survive-is-first-claim :
     (p : Plan) → ((i : ℕ) → getD (p .chances) i 0 ≤ S) → value (exact-month (p .severity)) p Survive ≡ first-claim-survival p * S
-unfolding value claims-of first-claim-survival survival
+unfolding value opening-allowed claims-of kept first-claim-survival survival
 survive-is-first-claim p hP = sym (first-claim-is (p .severity) (length (p .chances)) (p .chances) (le-refl _) hP (p .opening))

@@ -14,5 +14,6 @@ pub mod Counts
 pub mod Filling
 pub mod FirstClaimLaw
 pub mod Tail
+pub mod Opening
 pub mod Theorems
 pub mod Worked

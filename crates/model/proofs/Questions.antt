@@ -14,9 +14,9 @@ use Rattle.model.specs.Sums.{all, count}
 use Rattle.model.specs.Plan.{Plan}
 use Rattle.model.specs.History.{claim, History, Surplus, known, at-least, at-most, is-claim, claims}
 use Rattle.model.specs.Exact.{path-from, survives, keeps, exact}
-use Rattle.model.specs.MonthRule.{exact-month, value, whole, all-placed, one-fewer, any-level, rule-of, last-of, claims-of}
+use Rattle.model.specs.MonthRule.{exact-month, kept, value, whole, all-placed, one-fewer, any-level, rule-of, last-of, claims-of, opening-allowed}
 use Rattle.model.proofs.Histories.{weight-is, claims-quiet, claims-more}
-use Rattle.model.proofs.Unrounded.{and-true, holds, left, Reads, unrounded}
+use Rattle.model.proofs.Unrounded.{and-true, and-assoc, weigh-tested, holds, left, Reads, unrounded}
 
 and-swap : (a b c d : Bool) → (a && b) && (c && d) ≡ (a && c) && (b && d)
 and-swap true true c d = refl
@@ -43,11 +43,13 @@ placed (Both j) k h = eqb (claims h) k
 placed (High L) k h = true
 placed (Low L) k h = true
 
-keeps-is : (q : Question) (u : ℕ) (h : History) → keeps q u h ≡ holds (test q) (placed q) (claims-of q) u h
-unfolding keeps survives holds test placed claims-of
+keeps-is : (q : Question) (u : ℕ) (h : History) → keeps q u h ≡ opening-allowed q u && holds (test q) (placed q) (claims-of q) u h
+unfolding keeps survives opening-allowed holds test placed claims-of
 keeps-is Survive u h = sym (and-true (survives u h))
 keeps-is (Both k) u h = refl
-keeps-is (High L) u h = all-and (at-least 1) (at-most L) (path-from u h) ∙ sym (and-true _)
+keeps-is (High L) u h =
+    and-assoc (leb u L) (survives u h) (all (at-most L) (path-from u h))
+    ∙ ap (λ (b : Bool). leb u L && b) (all-and (at-least 1) (at-most L) (path-from u h) ∙ sym (and-true _))
 keeps-is (Low L) u h = all-and (at-least 1) (at-least L) (path-from u h) ∙ sym (and-true _)
 
 -- survive, high and low: the claims are not counted, and the test of the surplus is that of the level where it is above 0
@@ -94,7 +96,9 @@ reads (Low L) = level-reads (test (Low L)) (λ s. leb L s) (λ r h. rw (le-leb 1
 
 -- The unrounded month rule is W, in parts of S: for every question and any plan, over claims included.
 pub unrounded-is-exact : (p : Plan) (q : Question) → value (exact-month (p .severity)) p q ≡ exact p q * S
-unfolding value exact
+unfolding value exact kept
 unrounded-is-exact p q =
     rw (weight-is, fun-ext (keeps-is q (p .opening)))
-    (sym (unrounded (rule-of q) (last-of q) (test q) (placed q) (reads q) (p .severity) (p .tail) (p .chances) (claims-of q) (p .opening)))
+    (sym
+    (weigh-tested (p .severity) (p .tail) (p .chances) (opening-allowed q (p .opening)) _ _
+    (unrounded (rule-of q) (last-of q) (test q) (placed q) (reads q) (p .severity) (p .tail) (p .chances) (claims-of q) (p .opening))))

@@ -19,7 +19,7 @@ use Rattle.model.specs.Plan.{Plan, plan-of, horizon, sizes, nth}
 use Rattle.model.specs.Levels.{gain}
 use Rattle.model.specs.History.{History, claim, known, at-least, at-most}
 use Rattle.model.specs.Exact.{path-from, survives, keeps, first-ruin, weight-of, exact, exact-ruin, exact-count}
-use Rattle.model.specs.MonthRule.{Row, Month, month, exact-month, kept, claimed-row, values, value, rule-of, last-of, claims-of, ruin-weight, ruin-row, carried-back}
+use Rattle.model.specs.MonthRule.{Row, Month, month, exact-month, kept, claimed-row, values, value, rule-of, last-of, claims-of, opening-allowed, ruin-weight, ruin-row, carried-back}
 use Rattle.model.specs.CountRow.{count-row, exact-count-month, after-months, no-months}
 use Rattle.model.specs.FirstClaim.{some-claim, first-claim-survival}
 use Rattle.model.specs.Bounds.{bound, lower, upper, ruin-bound, ruin-lower, ruin-upper, ruin-lowers, ruin-uppers, count-lower, count-upper}
@@ -29,7 +29,7 @@ use Rattle.model.proofs.Facts.{facts}
 use Rattle.model.proofs.SumLaws.{pow-two-more}
 use Rattle.model.proofs.LevelLaws.{level-later}
 use Rattle.model.proofs.Month.{Direction, downwards, upwards, times-right, scale-positive, Within, down-within, up-within, limit, month-limited}
-use Rattle.model.proofs.Values.{take-fits, values-enclose, values-fit, values-gap, live-months-append, last-fits, months-fit}
+use Rattle.model.proofs.Values.{kept-rel, take-fits, values-enclose, values-fit, values-gap, live-months-append, last-fits, kept-fits, months-fit}
 use Rattle.model.proofs.Histories.{weight-is, weigh-all}
 use Rattle.model.proofs.Questions.{unrounded-is-exact}
 use Rattle.model.proofs.FirstRuin.{unrounded-ruin-is-exact, ruins-make-up, ruin-row-encloses, ruin-row-gap, ruin-row-fits, ruin-limited}
@@ -145,16 +145,18 @@ module _ (h : Head) (row : List ℕ) (accepted : Accepted h row) where
       one-side :
           {rel : ℕ → ℕ → Type 0} {round : Rounding} (d : Direction rel round) →
           rel (bound round p q * S ^ (2 * horizon p)) (value (exact-month (p .severity)) p q)
-      one-side d =
-          rw mul-one at
+      one-side {rel} {round} d =
+          kept-rel (λ a e. rel (a * S ^ (2 * horizon p)) e) (rw zero-mul (d .same 0)) (opening-allowed q) _ _ (p .opening)
+          (rw mul-one at
           (values-enclose d (p .severity) (rule-of q) (last-of q) (last-of q) 1 (λ k s. rw mul-one (d .same _)) (p .chances) chances-fit (claims-of q)
-          (p .opening))
+          (p .opening)))
 
       gap : upper p q ≤ lower p q + month-gap * live-months (p .chances)
       gap =
-          rw zero-add at
+          kept-rel (λ a b. b ≤ a + month-gap * live-months (p .chances)) (omega arith) (opening-allowed q) _ _ (p .opening)
+          (rw zero-add at
           (values-gap (p .severity) severity-fits (rule-of q) (last-of q) (last-of q) 0 (λ k s. omega arith) (p .chances) chances-fit (claims-of q)
-          (p .opening))
+          (p .opening)))
 
   pub count-enclosure :
       (k : ℕ) → Encloses p (p .chances) (exact-count p k) (count-lower p k) (count-upper p k)
@@ -314,7 +316,8 @@ module _ (h : Head) (row : List ℕ) (accepted : Accepted h row) where
   bound-fits : (round : Rounding) → Within round → (q : Question) → bound round p q ≤ S
   unfolding bound value
   bound-fits round within q =
-      values-fit round within (p .severity) severity-fits (rule-of q) (last-of q) (last-fits q) (p .chances) chances-fit (claims-of q) (p .opening)
+      kept-fits (opening-allowed q) _ (p .opening)
+      (values-fit round within (p .severity) severity-fits (rule-of q) (last-of q) (last-fits q) (p .chances) chances-fit (claims-of q) (p .opening))
 
   pub bounds-fit : (q : Question) → (lower p q ≤ S) × (upper p q ≤ S)
   bounds-fit q = (bound-fits down down-within q, bound-fits up up-within q)

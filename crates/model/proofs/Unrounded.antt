@@ -42,6 +42,13 @@ cond-scaled : (b : Bool) → cond b 1 0 * S ≡ cond b S 0
 cond-scaled true = one-mul S
 cond-scaled false = zero-mul S
 
+-- a test in front of a condition takes its weight as 0 where it fails
+pub weigh-tested :
+    (F : List ℕ) (tail : ℕ) (Ps : List ℕ) (b : Bool) (condition : History → Bool) (v : ℕ) →
+    weigh F tail Ps condition * S ≡ v → weigh F tail Ps (λ h. b && condition h) * S ≡ cond b v 0
+weigh-tested F tail Ps true condition v e = e
+weigh-tested F tail Ps false condition v e = rw (weigh-none F tail Ps) (zero-mul S)
+
 -- a claim of at least the level at which it comes ruins
 pub claim-ruins : (s i : ℕ) → s + gain ≤ suc i → at-least 1 (next-surplus (known (pos s)) (claim (suc i))) ≡ false
 unfolding at-least next-surplus
@@ -86,11 +93,7 @@ module _ (q : Rule) (F : List ℕ) (tail : ℕ) where
 
     kept-weigh : (j r : ℕ) → weigh F tail Ps (λ h. q .allowed r && after j r h) * S ≡ kept (q .allowed) (next j) r
     unfolding kept
-    kept-weigh j r = go (q .allowed r)
-      where
-        go : (b : Bool) → weigh F tail Ps (λ h. b && after j r h) * S ≡ cond b (next j r) 0
-        go true = later j r
-        go false = rw (weigh-none F tail Ps) (zero-mul S)
+    kept-weigh j r = weigh-tested F tail Ps (q .allowed r) (after j r) (next j r) (later j r)
 
     claimed-weigh : (o : Option ℕ) (r : ℕ) → weigh F tail Ps (after-claimed o r) * S ≡ claimed-row (λ j. kept (q .allowed) (next j)) o r
     unfolding claimed-row after-claimed

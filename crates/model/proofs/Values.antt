@@ -17,6 +17,16 @@ use Rattle.model.specs.Bounds.{live-months, month-gap}
 use Rattle.model.proofs.SumLaws.{pow-two-more, positive-none, positive-more}
 use Rattle.model.proofs.Month.{Direction, Within, MonthFits, claim-sum-times, month-encloses, month-fits, month-gap-live, month-gap-idle}
 
+-- what is related, and relates 0 to 0, stays related where levels are taken as 0
+pub kept-rel :
+    (R : ℕ → ℕ → Type 0) → R 0 0 → (allowed : ℕ → Bool) (X X′ : Row) (s : ℕ) → R (X s) (X′ s) → R (kept allowed X s) (kept allowed X′ s)
+unfolding kept
+kept-rel R nothing allowed X X′ s h = go (allowed s)
+  where
+    go : (b : Bool) → R (cond b (X s) 0) (cond b (X′ s) 0)
+    go true = h
+    go false = nothing
+
 -- A relation between the values of two month rules, which may speak of the chances still to come: if it holds of 0 and of the last row, and
 -- each month keeps it, then it holds of all values.
 module _
@@ -31,14 +41,6 @@ module _
     ((s : ℕ) → R Ps (X s) (X′ s)) → ((s : ℕ) → R Ps (Y s) (Y′ s)) →
     (s : ℕ) → R (P ∷ Ps) (m₁ P X Y s) (m₂ P X′ Y′ s))
   where
-    kept-rel : (Ps : List ℕ) (X X′ : Row) → ((s : ℕ) → R Ps (X s) (X′ s)) → (s : ℕ) → R Ps (kept (q .allowed) X s) (kept (q .allowed) X′ s)
-    unfolding kept
-    kept-rel Ps X X′ h s = go (q .allowed s)
-      where
-        go : (b : Bool) → R Ps (cond b (X s) 0) (cond b (X′ s) 0)
-        go true = h s
-        go false = nothing Ps
-
     claimed-rel :
         (Ps : List ℕ) (X X′ : ℕ → Row) → ((k s : ℕ) → R Ps (X k s) (X′ k s)) →
         (o : Option ℕ) (s : ℕ) → R Ps (claimed-row X o s) (claimed-row X′ o s)
@@ -55,7 +57,7 @@ module _
         (claimed-rel Ps (λ j. kept (q .allowed) (N j)) (λ j. kept (q .allowed) (N′ j)) rows (q .after-claim k))
       where
         rows : (j s : ℕ) → R Ps (kept (q .allowed) (N j) s) (kept (q .allowed) (N′ j) s)
-        rows j = kept-rel Ps (N j) (N′ j) (h j)
+        rows j s = kept-rel (R Ps) (nothing Ps) (q .allowed) (N j) (N′ j) s (h j s)
 
     pub values-rel : (Ps : List ℕ) → ((i : ℕ) → getD Ps i 0 ≤ S) → (k s : ℕ) → R Ps (values m₁ q last₁ Ps k s) (values m₂ q last₂ Ps k s)
     unfolding values
@@ -153,13 +155,8 @@ last-fits (Both j) (suc k) s = omega arith
 last-fits (High L) k s = le-refl S
 last-fits (Low L) k s = le-refl S
 
-kept-fits : (allowed : ℕ → Bool) (X : Row) (s : ℕ) → X s ≤ S → kept allowed X s ≤ S
-unfolding kept
-kept-fits allowed X s h = go (allowed s)
-  where
-    go : (b : Bool) → cond b (X s) 0 ≤ S
-    go true = h
-    go false = omega arith
+pub kept-fits : (allowed : ℕ → Bool) (X : Row) (s : ℕ) → X s ≤ S → kept allowed X s ≤ S
+kept-fits allowed X s h = kept-rel (λ a b. a ≤ S) (omega arith) allowed X X s h
 
 claimed-fits : (X : ℕ → Row) (o : Option ℕ) (s : ℕ) → ((k : ℕ) → X k s ≤ S) → claimed-row X o s ≤ S
 unfolding claimed-row

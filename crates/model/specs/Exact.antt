@@ -2,7 +2,7 @@
 use Prim.Native.Nat.{ℕ, _-_}
 use mathlib.Core.Bool.{Bool, _&&_, cond}
 use mathlib.Core.List.{List, map}
-use lib.Dec.{eqb}
+use lib.Dec.{leb, eqb}
 use lib.IntN.{pos}
 use lib.ListN.{getD, take}
 use Rattle.model.specs.declared.Question.{Question}
@@ -19,11 +19,12 @@ path-from u h = surplus-path (known (pos u)) h
 unfoldable pub survives : ℕ → History → Bool
 survives u h = all (at-least 1) (path-from u h)
 
--- the condition of each question, as its line in the list of four says it
+-- The condition of each question, as its line in the list of four says it. Document 02 besides: "high L holds only if u is at most L as well, with no months
+-- too"; U_0 does not count in low.
 unfoldable pub keeps : Question → ℕ → History → Bool
 keeps Survive u h = survives u h
 keeps (Both k) u h = survives u h && eqb (claims h) k
-keeps (High L) u h = survives u h && all (at-most L) (path-from u h)
+keeps (High L) u h = leb u L && survives u h && all (at-most L) (path-from u h)
 keeps (Low L) u h = survives u h && all (at-least L) (path-from u h)
 
 -- "exactly k claims in the n months, ruin or not"

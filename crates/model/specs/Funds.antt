@@ -13,7 +13,7 @@ use Rattle.model.specs.FirstClaim.{first-claim-survival}
 use Rattle.model.specs.Bounds.{lower, upper}
 use Rattle.model.specs.Refusal.{plan-refusal}
 
--- a fund with a question and the bounds that document 01 gives
+-- a fund with a question and the bounds that document 01 gives, for u 5 with high 4 those of document 02
 pub record Fund : Type 0 where
   pub head : Head
   pub row : List ℕ
@@ -42,7 +42,7 @@ starred =
     ∷ fund 2 1 2 (1 ∷ 1 ∷ 1 ∷ (one - 1) ∷ 0 ∷ []) Survive 1073741823 1073741824
     ∷ fund 1 5 1 (0 ∷ one ∷ 0 ∷ []) (High 5) 0 0
     ∷ fund 1 5 1 (0 ∷ one ∷ 0 ∷ []) (High 6) one one
-    ∷ fund 1 5 2 (half ∷ 0 ∷ one ∷ 0 ∷ []) (High 4) half half
+    ∷ fund 1 5 2 (half ∷ 0 ∷ one ∷ 0 ∷ []) (High 4) 0 0
     ∷ fund 2 1 2 (half ∷ half ∷ half ∷ half ∷ 0 ∷ []) Survive 738197504 738197504
     ∷ fund 2 1 2 (half ∷ half ∷ half ∷ half ∷ 0 ∷ []) (Both 1) 402653184 402653184
     ∷ fund 2 1 2 (half ∷ half ∷ half ∷ half ∷ 0 ∷ []) (Low 2) 402653184 402653184

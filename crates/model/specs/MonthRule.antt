@@ -98,9 +98,20 @@ claims-of (Both k) = k
 claims-of (High L) = 0
 claims-of (Low L) = 0
 
--- "The answer is V_0(u)."
+-- V_0 of a question, by the level at which the fund opens
+abbrev pub opening-row : Month → Plan → Question → Row
+opening-row one-month p q = values one-month (rule-of q) (last-of q) (p .chances) (claims-of q)
+
+-- the openings that a question does not forbid: the level of high caps them too, "U_0 does not count" in low
+unfoldable pub opening-allowed : Question → ℕ → Bool
+opening-allowed Survive = any-level
+opening-allowed (Both k) = any-level
+opening-allowed (High L) = λ u. leb u L
+opening-allowed (Low L) = any-level
+
+-- "The answer is V_0(u)". Document 02 of high, with no months too: "V_0(u) is then also taken as 0 where u is above L"
 unfoldable pub value : Month → Plan → Question → ℕ
-value one-month p q = values one-month (rule-of q) (last-of q) (p .chances) (claims-of q) (p .opening)
+value one-month p q = kept (opening-allowed q) (opening-row one-month p q) (p .opening)
 
 -- Document 02: "the weight of all sizes above s, over included", which are those that ruin, by the level s + 1 at which the claim comes
 unfoldable pub ruin-weight : List ℕ → ℕ → ℕ → ℕ

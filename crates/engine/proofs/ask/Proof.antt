@@ -1,13 +1,16 @@
--- `ask` meets its contract. A refusal: the answer and the workspace by definition. An answer: each bound is the month rule's value by the question's
--- shape (`AnswerLaws`), and the model's enclosure holds of the two values.
+-- `ask` meets its contract. A refusal: the answer and the workspace by definition. An answer: each bound is 0 where the opening is forbidden, and the month
+-- rule's value by the question's shape where it is not (`AnswerLaws`); the model's enclosure holds of the two values.
 use mathlib.Core.Path.{_≡_, sym, ap, _∙_}
+use mathlib.Core.Bool.{true, false}
 use Prim.Native.Nat.{_*_, _<_}
 use native.Mathlib.Omega.{arith}
 use borrow.Author.Needs.{needs}
+use borrow.Author.Tests.{not-true, not-false}
 use lib.ListN.{length}
 use Rattle.model.specs.Scale.{Rounding, down, up}
 use Rattle.model.specs.Plan.{plan-of}
 use Rattle.model.specs.Levels.{row-levels}
+use Rattle.model.specs.MonthRule.{opening-allowed}
 use Rattle.model.specs.Bounds.{bound}
 use Rattle.model.specs.Refusal.{outside, workspace-needed, ask-refusal}
 use Rattle.model.proofs.Facts.{facts, accepted-head}
@@ -18,7 +21,7 @@ use Rattle.engine.specs.Answers.{answer}
 use Rattle.engine.specs.declared.bounds.LastRows.the-variants.{Placed}
 use Rattle.engine.specs.LastRows.{LastFits, opening-value}
 use Rattle.engine.proofs.AskLaws.{Asked, asked, shape-rows, shape-width}
-use Rattle.engine.proofs.AnswerLaws.{refused-out, workspace-cleared, worked-out, needed-halves, bound-is}
+use Rattle.engine.proofs.AnswerLaws.{refused-out, workspace-cleared, worked-out, needed-halves, bound-is, bound-none}
 use Rattle.engine.proofs.ask.Statement.{statement}
 use Rattle.engine.proofs.ask.Tie as tie
 
@@ -50,15 +53,76 @@ known c =
     asked (a .ask .head) (a .row .now) (outside (a .ask .question)) (workspace-needed (a .ask)) (length (a .workspace .now))
     (sym (c .before .ask-refusal .ensures) ∙ c .if1 .left)
 
+opening-allowed-requires : tie.Need-opening-allowed-requires
+opening-allowed-requires c κs = search needs
+
+-- where nothing was refused, and the start of the function, from after the test of the opening
+abbrev unrefused : tie.After-opening-allowed → tie.Else1
+unrefused c = c .before .before
+
+abbrev of-test : tie.After-opening-allowed → tie.Start
+of-test c = start (unrefused c .before)
+
+none-refused : (c : tie.Else1) → let a = start (c .before) .args in ask-refusal (a .ask) (a .row .now) (length (a .workspace .now)) ≡ 0
+none-refused c = sym (c .before .ask-refusal .ensures) ∙ c .if1 .left
+
+workspace-needed-requires : tie.Need-workspace-needed-requires
+workspace-needed-requires c κs = let known = known (unrefused (c .before)) in (accepted-head _ _ (known .accepted), known .inside)
+
+-- the test of the opening, from after the workspace was measured
+abbrev forbidden : tie.After-workspace-needed → tie.After-opening-allowed
+forbidden c = c .before .before
+
+none-allowed-requires : tie.Need-none-allowed-requires
+none-allowed-requires c κs =
+    let at-needed = c .before in
+    omega (arith, at-needed .workspace-needed .ensures, known (unrefused (forbidden at-needed)) .enough)
+
+same-length : tie.Need-same-length
+same-length c = search needs
+
+-- both bounds are 0 where the opening is forbidden
+no-bound :
+    (c : tie.Then2) (round : Rounding) →
+    let a = of-test (c .before) .args in
+    0 ≡ bound round (plan-of (a .ask .head) (a .row .now)) (a .ask .question)
+no-bound c round =
+    let a = of-test (c .before) .args in
+    let forbids : opening-allowed (a .ask .question) (a .ask .head .opening) ≡ false = sym (c .before .opening-allowed .ensures) ∙ not-true _ (c .if2 .taken) in
+    bound-none round (a .ask .head) (a .row .now) (a .ask .question) forbids
+
+returns-2 : tie.Need-returns-2
+unfolding answer
+returns-2 c =
+    let cleared = c .before .before in
+    let call = cleared .none-allowed in
+    let at-needed = cleared .before .before in
+    let needed = at-needed .workspace-needed in
+    let else1 = unrefused (forbidden at-needed) in
+    let a = of-test (forbidden at-needed) .args in
+    let row = a .row .now in
+    let done =
+    worked-out (call .result) (ask-refusal (a .ask) row (length (a .workspace .now))) (call .ensures .0) (no-bound (at-needed .before) down)
+    (no-bound (at-needed .before) up) (none-refused else1) (enclosure (a .ask .head) row (known else1 .accepted) (a .ask .question)) in (
+      done .0,
+      (
+        call .ensures .1 ∙ workspace-cleared _ (workspace-needed (a .ask)) (needed .result) (a .workspace .now) (none-refused else1) (needed .ensures),
+        λ _. done .1,
+      ),
+    )
+
 row-levels-requires : tie.Need-row-levels-requires
-row-levels-requires c κs = accepted-head _ _ (known (c .before) .accepted)
+row-levels-requires c κs = accepted-head _ _ (known (unrefused (c .before)) .accepted)
 
 shape-of-requires : tie.Need-shape-of-requires
-shape-of-requires c κs = known (c .before .before) .inside
+shape-of-requires c κs = known (unrefused (c .before .before)) .inside
 
--- where nothing was refused, and the rows' shape
+-- the test of the opening, and where nothing was refused, from after the rows' shape
+abbrev allowed : tie.After-shape-of → tie.Else2
+allowed c = c .before .before
+
 abbrev answered : tie.After-shape-of → tie.Else1
-answered c = c .before .before .before
+answered c = unrefused (allowed c .before)
 
 abbrev of-shape : tie.After-shape-of → tie.Start
 of-shape c = start (answered c .before)
@@ -93,8 +157,9 @@ bound-of c round =
     let width = c .before .row-levels in
     let known = known (answered c) in
     let row-is = facts h (a .row .now) (known .accepted) .row-is in
+    let allows : opening-allowed (a .ask .question) (h .opening) ≡ true = sym (allowed c .before .opening-allowed .ensures) ∙ not-false _ (allowed c .if2 .left) in
     ap (λ s. opening-value round (plan-of h (a .row .now)) (h .months) s Placed) (c .shape-of .ensures)
-    ∙ bound-is round h (a .row .now) row-is (a .ask .question) (known .inside) (width .result) (width .ensures)
+    ∙ bound-is round h (a .row .now) row-is (a .ask .question) (known .inside) allows (width .result) (width .ensures)
 
 work-out-requires : tie.Need-work-out-requires
 unfolding LastFits
@@ -108,19 +173,19 @@ work-out-requires c κs =
       ),
     )
 
-same-length : tie.Need-same-length
-same-length c = search needs
+same-length-2 : tie.Need-same-length-2
+same-length-2 c = search needs
 
-returns-2 : tie.Need-returns-2
+returns-3 : tie.Need-returns-3
 unfolding answer
-returns-2 c =
+returns-3 c =
     let worked = c .before .before in
     let call = worked .work-out in
     let at-shape = worked .before .before in
     let else1 = answered at-shape in
     let a = of-shape at-shape .args in
     let row = a .row .now in
-    let none = sym (else1 .before .ask-refusal .ensures) ∙ else1 .if1 .left in
+    let none = none-refused else1 in
     let done =
     worked-out (call .result) (ask-refusal (a .ask) row (length (a .workspace .now))) (call .ensures .0) (bound-of at-shape down) (bound-of at-shape up) none
     (enclosure (a .ask .head) row (known else1 .accepted) (a .ask .question)) in (
@@ -138,8 +203,13 @@ ask-spec =
     ask-refusal-requires
     refused-requires
     returns
+    opening-allowed-requires
+    workspace-needed-requires
+    none-allowed-requires
+    same-length
+    returns-2
     row-levels-requires
     shape-of-requires
     work-out-requires
-    same-length
-    returns-2)
+    same-length-2
+    returns-3)
