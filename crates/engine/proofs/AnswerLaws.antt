@@ -36,33 +36,34 @@ use Rattle.engine.specs.LastRows.{last-rows, past-last, LastIn, LastFits
 use Rattle.engine.specs.Answers.{refused, bounds-answer, cleared-after}
 use Rattle.engine.proofs.AskLaws.{shape-rows, shape-width, last-agree, shape-value}
 
--- the answer and the workspace of a refusal
+-- The clauses of a call that answers two bounds: of a refusal, of which nothing else is promised (E) …
 pub refused-out :
-    (r : Answer) (n number needed low high : ℕ) (ws : List ℕ) → r ≡ refused n → n ≡ number → (n ≡ 0 → ⊥) →
-    (r ≡ bounds-answer number low high) × (ws ≡ cleared-after number needed ws) × (r .refusal ≡ 0 → ⊥)
+    {E : Type 0} (r : Answer) (n number needed low high : ℕ) (ws : List ℕ) → r ≡ refused n → n ≡ number → (n ≡ 0 → ⊥) →
+    (r ≡ bounds-answer number low high) × ((ws ≡ cleared-after number needed ws) × (r .refusal ≡ 0 → E))
 unfolding refused bounds-answer cleared-after
-refused-out r n number needed low high ws er e ne =
-    (rw (er, ← e, ne-eqb n 0 ne), rw (← e, ne-eqb n 0 ne), λ z. ne (sym (ap (λ (a : Answer). a .refusal) er) ∙ z))
+refused-out r n number needed low high ws er e ne = (
+  rw (er, ← e, ne-eqb n 0 ne),
+  (rw (← e, ne-eqb n 0 ne), λ z. absurd (ne (sym (ap (λ (a : Answer). a .refusal) er) ∙ z))),
+)
 
--- and of an answer that was worked out
-pub workspace-cleared :
-    (number needed m : ℕ) (ws : List ℕ) → number ≡ 0 → m ≡ needed → replicate m 0 ++ drop m ws ≡ cleared-after number needed ws
-unfolding cleared-after
-workspace-cleared number needed m ws e em = rw (e, em)
+-- … and of an answer that was not refused: what holds of the definition's bounds holds of its numbers.
+pub answered-out :
+    {p : Plan} {gap-months : List ℕ} {W : ℕ} (r : Answer) (number m needed : ℕ) (ws ws′ : List ℕ) {low high low′ high′ : ℕ} → number ≡ 0 →
+    r ≡ bounds-answer 0 low high → low ≡ low′ → high ≡ high′ → ws′ ≡ replicate m 0 ++ drop m ws → m ≡ needed → Encloses p gap-months W low′ high′ →
+    (r ≡ bounds-answer number low′ high′) × ((ws′ ≡ cleared-after number needed ws) × (r .refusal ≡ 0 → Encloses p gap-months W (r .lower) (r .upper)))
+unfolding bounds-answer cleared-after
+answered-out r number m needed ws ws′ e worked el eh cleared em encloses = (
+  rw (e, ← el, ← eh) worked,
+  (
+    rw (e, ← em) cleared,
+    λ _. rw (ap (λ (a : Answer). a .lower) worked ∙ el, ap (λ (a : Answer). a .upper) worked ∙ eh) encloses,
+  ),
+)
 
 -- the answer that the bounds give
 pub answer-worked : (low high low′ high′ : ℕ) → low ≡ low′ → high ≡ high′ → _≡_ {A = Answer} (record { refusal = 0; lower = low; upper = high }) (bounds-answer 0 low′ high′)
 unfolding bounds-answer
 answer-worked low high low′ high′ el eh = rw (el, eh)
-
--- what was worked out is the call's answer, and what holds of the bounds holds of its numbers
-pub worked-out :
-    {p : Plan} {gap-months : List ℕ} {W : ℕ} (r : Answer) (number : ℕ) {low high low′ high′ : ℕ} →
-    r ≡ bounds-answer 0 low high → low ≡ low′ → high ≡ high′ → number ≡ 0 → Encloses p gap-months W low′ high′ →
-    (r ≡ bounds-answer number low′ high′) × Encloses p gap-months W (r .lower) (r .upper)
-unfolding bounds-answer
-worked-out r number worked el eh e encloses =
-    (rw (e, ← el, ← eh) worked, rw (ap (λ (a : Answer). a .lower) worked ∙ el, ap (λ (a : Answer). a .upper) worked ∙ eh) encloses)
 
 -- the two halves are what is needed
 pub needed-halves : (a : Ask) (width : ℕ) → width ≡ row-levels (a .head .opening) (a .head .months) → 2 * rows-size (shape-of (a .question) width) ≡ workspace-needed a

@@ -21,7 +21,7 @@ use Rattle.engine.specs.Answers.{answer}
 use Rattle.engine.specs.declared.bounds.LastRows.the-variants.{Placed}
 use Rattle.engine.specs.LastRows.{LastFits, opening-value}
 use Rattle.engine.proofs.AskLaws.{Asked, asked, shape-rows, shape-width}
-use Rattle.engine.proofs.AnswerLaws.{refused-out, workspace-cleared, worked-out, needed-halves, bound-is, bound-none}
+use Rattle.engine.proofs.AnswerLaws.{refused-out, answered-out, needed-halves, bound-is, bound-none}
 use Rattle.engine.proofs.ask.Statement.{statement}
 use Rattle.engine.proofs.ask.Tie as tie
 
@@ -41,8 +41,7 @@ returns c =
     let checked = c .before .before in
     let a = start checked .args in
     let n = checked .ask-refusal in
-    let out = refused-out (c .refused .result) (n .result) _ (workspace-needed (a .ask)) _ _ (a .workspace .now) (c .refused .ensures) (n .ensures) (c .before .if1 .taken) in
-    (out .0, (out .1, λ z. absurd (out .2 z)))
+    refused-out (c .refused .result) (n .result) _ (workspace-needed (a .ask)) _ _ (a .workspace .now) (c .refused .ensures) (n .ensures) (c .before .if1 .taken)
 
 known :
     (c : tie.Else1) →
@@ -100,16 +99,9 @@ returns-2 c =
     let needed = at-needed .workspace-needed in
     let else1 = unrefused (forbidden at-needed) in
     let a = of-test (forbidden at-needed) .args in
-    let row = a .row .now in
-    let done =
-    worked-out (call .result) (ask-refusal (a .ask) row (length (a .workspace .now))) (call .ensures .0) (no-bound (at-needed .before) down)
-    (no-bound (at-needed .before) up) (none-refused else1) (enclosure (a .ask .head) row (known else1 .accepted) (a .ask .question)) in (
-      done .0,
-      (
-        call .ensures .1 ∙ workspace-cleared _ (workspace-needed (a .ask)) (needed .result) (a .workspace .now) (none-refused else1) (needed .ensures),
-        λ _. done .1,
-      ),
-    )
+    answered-out (call .result) _ (needed .result) (workspace-needed (a .ask)) (a .workspace .now) _ (none-refused else1) (call .ensures .0)
+    (no-bound (at-needed .before) down) (no-bound (at-needed .before) up) (call .ensures .1) (needed .ensures)
+    (enclosure (a .ask .head) (a .row .now) (known else1 .accepted) (a .ask .question))
 
 row-levels-requires : tie.Need-row-levels-requires
 row-levels-requires c κs = accepted-head _ _ (known (unrefused (c .before)) .accepted)
@@ -184,17 +176,9 @@ returns-3 c =
     let at-shape = worked .before .before in
     let else1 = answered at-shape in
     let a = of-shape at-shape .args in
-    let row = a .row .now in
-    let none = none-refused else1 in
-    let done =
-    worked-out (call .result) (ask-refusal (a .ask) row (length (a .workspace .now))) (call .ensures .0) (bound-of at-shape down) (bound-of at-shape up) none
-    (enclosure (a .ask .head) row (known else1 .accepted) (a .ask .question)) in (
-      done .0,
-      (
-        call .ensures .1 ∙ workspace-cleared _ (workspace-needed (a .ask)) (2 * rows-size (at-shape .shape-of .result)) (a .workspace .now) none (needed-is at-shape),
-        λ _. done .1,
-      ),
-    )
+    answered-out (call .result) _ (2 * rows-size (at-shape .shape-of .result)) (workspace-needed (a .ask)) (a .workspace .now) _ (none-refused else1)
+    (call .ensures .0) (bound-of at-shape down) (bound-of at-shape up) (call .ensures .1) (needed-is at-shape)
+    (enclosure (a .ask .head) (a .row .now) (known else1 .accepted) (a .ask .question))
 
 pub ask-spec : {M : Type 1} → statement M
 ask-spec =

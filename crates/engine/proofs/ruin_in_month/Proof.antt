@@ -18,7 +18,7 @@ use Rattle.engine.specs.Questions.{shape-of}
 use Rattle.engine.specs.Answers.{ruin-answer}
 use Rattle.engine.specs.LastRows.{opening-value}
 use Rattle.engine.proofs.AskLaws.{Asked, asked, month-inside, shape-width}
-use Rattle.engine.proofs.AnswerLaws.{refused-out, workspace-cleared, worked-out, needed-halves, ruin-bound-is, ruin-fits}
+use Rattle.engine.proofs.AnswerLaws.{refused-out, answered-out, needed-halves, ruin-bound-is, ruin-fits}
 use Rattle.engine.proofs.ruin_in_month.Statement.{statement}
 use Rattle.engine.proofs.ruin_in_month.Tie as tie
 
@@ -38,8 +38,7 @@ returns c =
     let checked = c .before .before in
     let a = start checked .args in
     let n = checked .ruin-refusal in
-    let out = refused-out (c .refused .result) (n .result) _ (ruin-workspace (a .head)) _ _ (a .workspace .now) (c .refused .ensures) (n .ensures) (c .before .if1 .taken) in
-    (out .0, (out .1, λ z. absurd (out .2 z)))
+    refused-out (c .refused .result) (n .result) _ (ruin-workspace (a .head)) _ _ (a .workspace .now) (c .refused .ensures) (n .ensures) (c .before .if1 .taken)
 
 known :
     (c : tie.Else1) →
@@ -132,16 +131,10 @@ returns-2 c =
     let a = of-shape at-shape .args in
     let h = a .head in
     let row = a .row .now in
-    let none = sym (else1 .before .ruin-refusal .ensures) ∙ else1 .if1 .left in
-    let done =
-    worked-out (call .result) (ruin-refusal h (a .month) row (length (a .workspace .now))) (call .ensures .0) (bound-of at-shape down) (bound-of at-shape up) none
-    (ruin-enclosure h row (known else1 .accepted) (a .month) (inside else1 .0) (rw (horizon-is h row (fits else1 .row-is)) (inside else1 .1))) in (
-      done .0,
-      (
-        call .ensures .1 ∙ workspace-cleared _ (ruin-workspace h) (2 * rows-size (at-shape .shape-of .result)) (a .workspace .now) none (needed-is at-shape),
-        λ _. done .1,
-      ),
-    )
+    answered-out (call .result) _ (2 * rows-size (at-shape .shape-of .result)) (ruin-workspace h) (a .workspace .now) _
+    (sym (else1 .before .ruin-refusal .ensures) ∙ else1 .if1 .left) (call .ensures .0) (bound-of at-shape down) (bound-of at-shape up) (call .ensures .1)
+    (needed-is at-shape)
+    (ruin-enclosure h row (known else1 .accepted) (a .month) (inside else1 .0) (rw (horizon-is h row (fits else1 .row-is)) (inside else1 .1)))
 
 pub ruin-in-month-spec : {M : Type 1} → statement M
 ruin-in-month-spec =
