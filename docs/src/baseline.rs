@@ -188,13 +188,16 @@ fn claim_sums(plan: &Plan) -> impl FnMut(&[u32], usize) -> u64 + '_ {
     }
 }
 
-/// One month over the levels from `top` down to 0, in place. `claims` is the claim sum at a level, from the row as it is then.
+/// One month over the levels from `top` down to 0, in place. `claims` is the claim sum at a level, from the row as it is then. What it leaves over
+/// by S is carried along, so that the value is the quotient by S × S rounded once.
 fn month(row: &mut [u32], top: usize, chance: u32, add: u64, mut claims: impl FnMut(&[u32], usize) -> u64) {
     let chance = u64::from(chance);
     let mut above = u64::from(row[top + 1]);
     for s in (0..=top).rev() {
-        let claimed = (claims(row, s) + add) / S;
-        let value = ((S - chance) * above + chance * claimed + add) / S;
+        let sum = claims(row, s);
+        let (claimed, left) = (sum / S, sum % S);
+        let carried = (chance * left + add) / S;
+        let value = ((S - chance) * above + chance * claimed + carried + add) / S;
         above = u64::from(row[s]);
         row[s] = value as u32;
     }

@@ -136,7 +136,7 @@ def carried_failures(plan):
 
 # ---- Enclosure and gap rule
 
-GAP = 2  # parts of S that a month with a chance above 0 may cost
+GAP = 1  # parts of S that a month with a chance above 0 may cost: "Z instead of 2 × Z"
 
 
 def encloses(plan, weight, lower, upper):

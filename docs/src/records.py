@@ -4,7 +4,7 @@ The input of `vectors` is a list of records: eight words of 8 bytes, most signif
 fill, length), then what the kind asks. `row` sets the row that later records use: length numbers of 4 bytes. The four questions ask with that
 row, `number` as k or L and a workspace of `room` numbers that each hold `fill`; `fails` asks in the same way, `number` as the month. `count` asks
 for the count row. `claims` takes the claim sum over the row's weights, with the first `number` of its chances as the values that claims of size 1, 2, …
-lead to. `write` lends `room` bytes and `read` a row of `room` numbers, each holding `fill`; `read` is followed by the plan's `length`
+lead to, and answers its quotient by S, what is left over and the number of products. `write` lends `room` bytes and `read` a row of `room` numbers, each holding `fill`; `read` is followed by the plan's `length`
 bytes.
 Its output has a line for each record but `row`: the refusal's number, the numbers answered, and the lent memory after the call where there is any, which
 is the bytes of `write` in hexadecimal and otherwise a checksum.
@@ -19,7 +19,7 @@ lent bytes. `report` prints the reserve report of these plan bytes.
 import itertools
 import math
 
-from rules import HEAD_BYTES, LARGEST, MOST_ASKED, PLACES, Head, ask_checks, bounds, byte_length, claim_sum, count_row, down, failure_bounds
+from rules import HEAD_BYTES, LARGEST, MOST_ASKED, PLACES, S, Head, ask_checks, bounds, byte_length, claim_sum, count_row, down, failure_bounds
 from rules import failure_checks, plan_checks, plan_of, read_bytes, read_checks, refusal, report, row_length, up, workspace_needed, write_bytes
 from rules import write_checks
 from sheets import made_bytes, made_plan, sheet_checks
@@ -106,7 +106,7 @@ class Calls:
         values = [] if number else plan_of(head, row).chances[:count]
         after = [0, *reversed(values)]  # the row of levels 0 to as many as there are values: a claim of size 1 leads to the highest
         total, products = (0, 0) if number else claim_sum(plan_of(head, row).weights, after, len(values))
-        self.answers(f"claims over the first {count} chances of {tuple(head)}, row of {len(row)}", number, total, products)
+        self.answers(f"claims over the first {count} chances of {tuple(head)}, row of {len(row)}", number, *divmod(total, S), products)
 
     def write(self, head, row, room, fill=255):
         self.use(row)

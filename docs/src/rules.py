@@ -140,19 +140,19 @@ def workspace_needed(head, question):
     return 2 * (largest_level(head) + 1) * rows
 
 
-# ---- The month rule and the count row, with the division by S as a parameter
+# ---- The month rule and the count row, with the division as a parameter
 
 
-def down(x):
-    return x // S
+def down(x, by):
+    return x // by
 
 
-def up(x):
-    return -(-x // S)
+def up(x, by):
+    return -(-x // by)
 
 
-def unrounded(x):
-    return Fraction(x) / S
+def unrounded(x, by):
+    return Fraction(x) / by
 
 
 def allowed(question, level):
@@ -172,9 +172,9 @@ def claim_sum(weights, after, s):
 
 
 def month(divide, weights, chance, quiet, claimed, s):
-    """The value at level s before a month, from the rows read without and with a claim."""
+    """The value at level s before a month, from the rows read without and with a claim: "the exact quotient by S × S, rounded once down or up"."""
     claims, _ = claim_sum(weights, claimed, s)
-    return divide((S - chance) * quiet[s + 1] + chance * divide(claims))
+    return divide((S - chance) * S * quiet[s + 1] + chance * claims, S * S)
 
 
 def last_rows(plan, question):
@@ -211,7 +211,7 @@ def month_rule(plan, question, divide):
 def failing_row(plan, t, divide):
     """The values before month t of failing in it, over the levels that it can begin at: P_t × (the sizes above the level, and over)."""
     chance, levels = plan.chances[t - 1], range(plan.head.opening + t)
-    return [divide(chance * (sum(plan.weights[s:]) + plan.tail)) for s in levels]
+    return [divide(chance * (sum(plan.weights[s:]) + plan.tail), S) for s in levels]
 
 
 def failure_rule(plan, t, divide):
@@ -220,7 +220,7 @@ def failure_rule(plan, t, divide):
 
 
 def count_month(row, chance, divide):
-    return [divide(chance * fewer + (S - chance) * same) for fewer, same in zip([0, *row], row)]
+    return [divide(chance * fewer + (S - chance) * same, S) for fewer, same in zip([0, *row], row)]
 
 
 def count_row(plan, divide):

@@ -61,6 +61,20 @@ def claim_tables(rng):
     yield plan_of(*timed_plans()["ten-filled"]).weights
 
 
+def check_small_divisions(tally, rng):
+    """The quotient by S × S from the claim sum's quotient by S and what is left over, dividing by S alone; no sum passes 2^62, rounded up or not."""
+    ends = [0, 1, S // 2, S - 1, S]
+    claims = [0, 1, S - 1, S, S + 1, S * S - S, S * S - 1, S * S]
+    cases = itertools.product(ends, ends, claims)
+    some = ((some_chance(rng), some_chance(rng), rng.randint(0, S * S)) for _ in range(2000))
+    for (chance, quiet, total), divide in itertools.product((*cases, *some), (down, up)):
+        claimed, left = divmod(total, S)
+        parts_of_s = (S - chance) * quiet + chance * claimed + divide(chance * left, S)
+        once = divide((S - chance) * S * quiet + chance * total, S * S)
+        tally.check("one rounding, dividing by S alone", divide(parts_of_s, S) == once, (chance, quiet, total))
+        tally.check("no sum passes 2^62", max(total, chance * left + S - 1, parts_of_s + S - 1) <= 2**62, (chance, quiet, total))
+
+
 def check_bounds(tally, name, plan, months, weight, pair, about):
     """The gap rule counts the first so many months."""
     tally.check(f"{name}: enclosure", encloses(plan, weight, *pair), about)
@@ -318,6 +332,7 @@ def selftest():
     check_sheets(tally, random.Random(9))
     for weights in claim_tables(own):
         check_claim_sums(tally, own, weights)
+    check_small_divisions(tally, random.Random(15))
     for _ in range(300):
         head, row = some_plan(rng, rng.randrange(5), rng.randrange(6), rng.randrange(1, 5))
         tally.check("accepted", refusal(ask_checks(head, row, SURVIVE, math.inf)) == 0, (head, row))

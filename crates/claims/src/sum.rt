@@ -1,24 +1,32 @@
 // The claim sum at a level, in plain machine arithmetic.
 ghost use mathlib.Core.Path.{_≡_};
 ghost use mathlib.Core.List.{map};
-ghost use Prim.Native.Nat.{_+_, _*_, _<_, _≤_, min};
+ghost use Prim.Native.Nat.{_+_, _*_, _/_, _%_, _<_, _≤_, min};
 ghost use lib.ListN.{length};
 ghost use Rattle.model.specs.Scale.{S};
 ghost use Rattle.model.specs.Sums.{sum, total};
 ghost use Rattle.model.specs.FilledSizes.{filled-sum, filled-count};
 ghost use Rattle.claims.specs.Listing.{product, SizesIn, NoGap, ListsRange};
 ghost use Rattle.claims.specs.Values.{from-top, Parts};
+use model::WIDE_SCALE;
 use numbers::lesser;
 use numbers::wide;
 
-// The sum of the products of weights and values, and how many products were added.
+// The claim sum by its quotient by S and what is left over, and how many products of weights and values were added.
 pub struct ClaimSum {
-    pub sum: u64,
+    pub quotient: u64,
+    pub remainder: u64,
     pub products: usize,
 }
 
+// Products added, and how many.
+struct ProductSum {
+    sum: u64,
+    products: usize,
+}
+
 // Over the listed sizes, in their order.
-fn listed_sum(severity: &[u32], sizes: &[usize], after: &[u32]) -> ClaimSum
+fn listed_sum(severity: &[u32], sizes: &[usize], after: &[u32]) -> ProductSum
     requires { ⌜ SizesIn (min (length (now after)) (length (now severity))) (now sizes) ⌝ }
     requires { ⌜ total (map (product (now severity) (now after)) (now sizes)) ≤ S * S ⌝ }
     ensures sum { λ r. ⌜ r .sum ≡ total (map (product (now (severity .entry)) (now (after .entry))) (now (sizes .entry))) ⌝ }
@@ -31,11 +39,11 @@ fn listed_sum(severity: &[u32], sizes: &[usize], after: &[u32]) -> ClaimSum
         sum += wide(severity[place]) * wide(after[place]);
         k += 1;
     }
-    ClaimSum { sum, products: k }
+    ProductSum { sum, products: k }
 }
 
 // Over the sizes 1 to `most`, from the largest down.
-fn dense_sum(severity: &[u32], after: &[u32], most: usize) -> ClaimSum
+fn dense_sum(severity: &[u32], after: &[u32], most: usize) -> ProductSum
     requires { ⌜ most ≤ min (length (now after)) (length (now severity)) ⌝ }
     requires { ⌜ sum most (product (now severity) (now after)) ≤ S * S ⌝ }
     ensures sum { λ r. ⌜ r .sum ≡ sum most (product (now (severity .entry)) (now (after .entry))) ⌝ }
@@ -49,7 +57,7 @@ fn dense_sum(severity: &[u32], after: &[u32], most: usize) -> ClaimSum
         sum += wide(severity[x]) * wide(after[x]);
         products += 1;
     }
-    ClaimSum { sum, products }
+    ProductSum { sum, products }
 }
 
 // The claim sum over the values that claims lead to, which lie one after the other, the last at level 1. Of the
@@ -59,8 +67,10 @@ pub fn claim_sum(severity: &[u32], sizes: &[usize], dense: usize, after: &[u32])
     requires { ⌜ total (now severity) ≤ S ⌝ }
     requires { ⌜ ListsRange (now severity) (now sizes) dense (min (length (now after)) (length (now severity))) ⌝ }
     requires { ⌜ NoGap (now severity) dense ⌝ }
-    ensures sum { λ r.
-        ⌜ r .sum ≡ filled-sum (now (severity .entry)) (from-top (length (now (after .entry))) (now (after .entry))) (length (now (after .entry)) + 1) ⌝ }
+    ensures quotient { λ r.
+        ⌜ r .quotient ≡ filled-sum (now (severity .entry)) (from-top (length (now (after .entry))) (now (after .entry))) (length (now (after .entry)) + 1) / S ⌝ }
+    ensures remainder { λ r.
+        ⌜ r .remainder ≡ filled-sum (now (severity .entry)) (from-top (length (now (after .entry))) (now (after .entry))) (length (now (after .entry)) + 1) % S ⌝ }
     ensures products { λ r. ⌜ r .products ≡ filled-count (now (severity .entry)) (length (now (after .entry)) + 1) ⌝ }
 {
     let most = lesser(after.len(), severity.len());
@@ -69,5 +79,9 @@ pub fn claim_sum(severity: &[u32], sizes: &[usize], dense: usize, after: &[u32])
     let rest = dense_sum(severity, after, low);
     let sum = listed.sum + rest.sum;
     let products = listed.products + rest.products;
-    ClaimSum { sum, products }
+    ClaimSum {
+        quotient: sum / WIDE_SCALE,
+        remainder: sum % WIDE_SCALE,
+        products,
+    }
 }

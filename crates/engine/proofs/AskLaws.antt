@@ -14,7 +14,8 @@ use Rattle.model.specs.declared.Question.{Question}
 use Rattle.model.specs.declared.Question.the-variants.{Survive, Both, High, Low}
 use Rattle.model.specs.Sums.{all}
 use Rattle.model.specs.Levels.{largest-level}
-use Rattle.model.specs.Scale.{S, Rounding}
+use Rattle.model.specs.declared.Rounding.{Rounding}
+use Rattle.model.specs.Scale.{S}
 use Rattle.model.specs.MonthRule.{Row, month, values, rule-of, last-of, claims-of, claimed-row, all-placed, one-fewer}
 use Rattle.model.specs.Refusal.{first, head-checks, length-check, number-checks, plan-checks, plan-refusal, Accepted, rows-needed, asked-checks, month-outside, room-check, bounds-refusal}
 use Rattle.model.proofs.Facts.{neither, not-zero, numbered, first-append, none-fits, none-fits-append, plan-numbered, plan-first}

@@ -9,7 +9,9 @@ use lib.ListN.{length, getD, take, drop, set, drop-of-length-le, List·getD-appe
 use borrow.Author.Tests.{ne-eqb}
 use lib.Seq.{take-length, take-suc, drop-cons, drop-length, set-at, length-take-le, getD-take, ext-getD}
 use Rattle.model.specs.Limits.{places}
-use Rattle.model.specs.Scale.{S, Rounding, down, up}
+use Rattle.model.specs.declared.Rounding.{Rounding}
+use Rattle.model.specs.declared.Rounding.the-variants.{Down, Up}
+use Rattle.model.specs.Scale.{S, quotient}
 use Rattle.model.specs.MonthRule.{Row}
 use Rattle.model.specs.CountRow.{one-before, count-month, no-months, after-months, count-row, tabulate}
 use Rattle.model.specs.declared.Head.{Head}
@@ -17,37 +19,37 @@ use Rattle.model.specs.Plan.{plan-of}
 use Rattle.model.specs.Exact.{exact-count}
 use Rattle.model.specs.Bounds.{Encloses, count-lower, count-upper}
 use Rattle.model.specs.Refusal.{plan-refusal, Accepted}
-use Rattle.model.proofs.Month.{mixture-le}
+use Rattle.model.proofs.Quotients.{quotient-le}
+use Rattle.model.proofs.Month.{scale-positive, mixture-le}
 use Rattle.model.proofs.Theorems.{count-enclosure}
 use Rattle.engine.specs.declared.CountRow.{CountRow}
 use Rattle.claims.specs.Values.{Parts}
-use Rattle.month_rule.specs.Rows.{at, round-by}
+use Rattle.month_rule.specs.Rows.{at}
 use Rattle.engine.specs.Counts.{CountParts, rows-after}
 use Rattle.engine.specs.declared.CountAnswer.{CountAnswer}
 use Rattle.engine.specs.Answers.{count-rows, count-refused, count-answer}
-use Rattle.month_rule.proofs.ValueLaws.{round-by-le, down-by, up-by}
 use Rattle.model.proofs.Counts.{length-tabulate, getD-tabulate}
 
 -- the row after one more month
-abbrev pub count-after : ℕ → ℕ → List ℕ → Row
-count-after bias P old = count-month (round-by bias) P (at old)
+abbrev pub count-after : Rounding → ℕ → List ℕ → Row
+count-after round P old = count-month round P (at old)
 
 -- the row while the places from k on are new and the rest is old
-unfoldable pub new-from : List ℕ → ℕ → ℕ → ℕ → List ℕ
-new-from old bias P k = take k old ++ drop k (tabulate (length old) (count-after bias P old))
+unfoldable pub new-from : List ℕ → Rounding → ℕ → ℕ → List ℕ
+new-from old round P k = take k old ++ drop k (tabulate (length old) (count-after round P old))
 
-module _ (old : List ℕ) (bias P : ℕ) where
-  new-count : length (tabulate (length old) (count-after bias P old)) ≡ length old
-  new-count = length-tabulate (length old) (count-after bias P old)
+module _ (old : List ℕ) (round : Rounding) (P : ℕ) where
+  new-count : length (tabulate (length old) (count-after round P old)) ≡ length old
+  new-count = length-tabulate (length old) (count-after round P old)
 
-  pub new-from-start : new-from old bias P (length old) ≡ old
+  pub new-from-start : new-from old round P (length old) ≡ old
   unfolding new-from
   new-from-start =
-      rw (take-length old, drop-of-length-le (tabulate (length old) (count-after bias P old)) {i = length old} (omega (arith, new-count))) (append-nil old)
+      rw (take-length old, drop-of-length-le (tabulate (length old) (count-after round P old)) {i = length old} (omega (arith, new-count))) (append-nil old)
 
   pub new-from-turn :
-      (row : List ℕ) (k v : ℕ) → k < length old → row ≡ new-from old bias P (k + 1) → v ≡ count-after bias P old k →
-      set row k v ≡ new-from old bias P k
+      (row : List ℕ) (k v : ℕ) → k < length old → row ≡ new-from old round P (k + 1) → v ≡ count-after round P old k →
+      set row k v ≡ new-from old round P k
   unfolding new-from
   new-from-turn row k v l e ev =
       rw (
@@ -55,54 +57,48 @@ module _ (old : List ℕ) (bias P : ℕ) where
         ev,
         add-one,
         take-suc old k 0 l,
-        append-assoc (take k old) (getD old k 0 ∷ []) (drop (suc k) (tabulate (length old) (count-after bias P old))),
+        append-assoc (take k old) (getD old k 0 ∷ []) (drop (suc k) (tabulate (length old) (count-after round P old))),
         set-at
             (take k old)
             (getD old k 0)
-            (drop (suc k) (tabulate (length old) (count-after bias P old)))
-            (count-after bias P old k)
+            (drop (suc k) (tabulate (length old) (count-after round P old)))
+            (count-after round P old k)
             k
             (length-take-le k old (omega arith)),
-        drop-cons (tabulate (length old) (count-after bias P old)) k 0 (omega (arith, new-count)),
-        getD-tabulate (length old) (count-after bias P old) k l,
+        drop-cons (tabulate (length old) (count-after round P old)) k 0 (omega (arith, new-count)),
+        getD-tabulate (length old) (count-after round P old) k l,
       )
 
-  pub new-from-end : new-from old bias P 0 ≡ tabulate (length old) (count-after bias P old)
+  pub new-from-end : new-from old round P 0 ≡ tabulate (length old) (count-after round P old)
   unfolding new-from
   new-from-end = refl
 
   -- the places up to k are still old
-  pub new-from-below : (row : List ℕ) (k i : ℕ) → k < length old → row ≡ new-from old bias P (k + 1) → i ≤ k → getD row i 0 ≡ getD old i 0
+  pub new-from-below : (row : List ℕ) (k i : ℕ) → k < length old → row ≡ new-from old round P (k + 1) → i ≤ k → getD row i 0 ≡ getD old i 0
   unfolding new-from
   new-from-below row k i l e m =
       rw e
-      (List·getD-append (take (k + 1) old) (drop (k + 1) (tabulate (length old) (count-after bias P old))) 0 i
+      (List·getD-append (take (k + 1) old) (drop (k + 1) (tabulate (length old) (count-after round P old))) 0 i
       (omega (arith, length-take-le (k + 1) old (omega arith)))
       ∙ getD-take (k + 1) old i 0 (omega arith))
 
   -- the value at a place
   pub place-value :
-      (row : List ℕ) (k v : ℕ) → 0 < k → k < length old → row ≡ new-from old bias P (k + 1) →
-      v ≡ round-by bias ((S - P) * getD row k 0 + P * getD row (k - 1) 0) → v ≡ count-after bias P old k
+      (row : List ℕ) (k v : ℕ) → 0 < k → k < length old → row ≡ new-from old round P (k + 1) →
+      v ≡ quotient round ((S - P) * getD row k 0 + P * getD row (k - 1) 0) S → v ≡ count-after round P old k
   unfolding count-month one-before
   place-value row zero v p l e ev = absurd (omega arith)
   place-value row (suc k) v p l e ev =
       let less : suc k - 1 ≡ k = omega arith in
       rw (ev, less, new-from-below row (suc k) (suc k) l e (omega arith), new-from-below row (suc k) k l e (omega arith))
-      (ap (round-by bias) (add-comm ((S - P) * getD old (suc k) 0) (P * getD old k 0)))
+      (ap (λ (n : ℕ). quotient round n S) (add-comm ((S - P) * getD old (suc k) 0) (P * getD old k 0)))
 
   pub first-value :
-      (row : List ℕ) (v : ℕ) → 0 < length old → row ≡ new-from old bias P 1 → v ≡ round-by bias ((S - P) * getD row 0 0 + P * 0) →
-      v ≡ count-after bias P old 0
+      (row : List ℕ) (v : ℕ) → 0 < length old → row ≡ new-from old round P 1 → v ≡ quotient round ((S - P) * getD row 0 0 + P * 0) S →
+      v ≡ count-after round P old 0
   unfolding count-month one-before
   first-value row v l e ev =
-      rw (ev, new-from-below row 0 0 l e (omega arith)) (ap (round-by bias) (add-comm ((S - P) * getD old 0 0) (P * 0)))
-
--- the same by its rounding, of a whole row
-pub count-after-is :
-    (bias : ℕ) (round : Rounding) → round ≡ round-by bias → (P : ℕ) (old new : List ℕ) → length old ≡ places →
-    new ≡ tabulate (length old) (count-after bias P old) → new ≡ tabulate places (count-month round P (at old))
-count-after-is bias round er P old new n e = rw (← n, er) e
+      rw (ev, new-from-below row 0 0 l e (omega arith)) (ap (λ (n : ℕ). quotient round n S) (add-comm ((S - P) * getD old 0 0) (P * 0)))
 
 parts-tabulate : (n : ℕ) (row : Row) → ((k : ℕ) → row k ≤ S) → Parts (tabulate n row)
 unfolding tabulate
@@ -114,12 +110,11 @@ parts-tabulate n row h = record { each = go n row h }
     go (suc n) row h (suc k) = go n (λ i. row (suc i)) (λ i. h (suc i)) k
 
 -- the values after a month are at most S again
-count-after-le : (round : Rounding) (bias : ℕ) → round ≡ round-by bias → bias < S → (P : ℕ) → P ≤ S → (row : Row) → ((k : ℕ) → row k ≤ S) →
-    (k : ℕ) → count-month round P row k ≤ S
+count-after-le : (round : Rounding) (P : ℕ) → P ≤ S → (row : Row) → ((k : ℕ) → row k ≤ S) → (k : ℕ) → count-month round P row k ≤ S
 unfolding count-month one-before
-count-after-le round bias e hb P hP row h k =
-    rw (e, add-comm (P * one-before row k) ((S - P) * row k))
-    (round-by-le bias ((S - P) * row k + P * one-before row k) hb (mixture-le P (row k) (one-before row k) S hP (h k) (before-le k)))
+count-after-le round P hP row h k =
+    rw (add-comm (P * one-before row k) ((S - P) * row k))
+    (quotient-le round _ S S scale-positive (mixture-le P (row k) (one-before row k) S hP (h k) (before-le k)))
   where
     before-le : (k : ℕ) → one-before row k ≤ S
     before-le zero = zero-le
@@ -176,8 +171,8 @@ ahead-start round chances k l = after-months-agree round chances places (at (tab
 -- the rows while the months go: whole, in parts of S, and on their way to the count row
 pub record Counting (chances : List ℕ) (row : CountRow) (t : ℕ) : Type 0 where
   pub parts : CountParts row
-  pub lower-ahead : Ahead down chances (row .lower) t
-  pub upper-ahead : Ahead up chances (row .upper) t
+  pub lower-ahead : Ahead Down chances (row .lower) t
+  pub upper-ahead : Ahead Up chances (row .upper) t
 
 whole-parts :
     (low high : Row) → ((k : ℕ) → low k ≤ S) → ((k : ℕ) → high k ≤ S) →
@@ -195,22 +190,22 @@ unfolding count-rows count-row after-months
 counting-rows-start chances =
     record {
       parts = whole-parts no-months no-months no-months-le no-months-le;
-      lower-ahead = ahead-start down chances;
-      upper-ahead = ahead-start up chances;
+      lower-ahead = ahead-start Down chances;
+      upper-ahead = ahead-start Up chances;
     }
 
 pub counting-rows-turn :
     (chances : List ℕ) → Parts chances → (row : CountRow) (t : ℕ) → t < length chances → Counting chances row t →
     Counting chances (rows-after (getD chances t 0) row) (t + 1)
-unfolding rows-after S
+unfolding rows-after
 counting-rows-turn chances h row t l c =
     record {
       parts =
-          whole-parts (count-month down P (at (row .lower))) (count-month up P (at (row .upper)))
-          (count-after-le down 0 down-by (omega arith) P (h .each t) (at (row .lower)) (c .parts .lower-parts .each))
-          (count-after-le up (S - 1) up-by (omega arith) P (h .each t) (at (row .upper)) (c .parts .upper-parts .each));
-      lower-ahead = ahead-turn down chances (row .lower) t l (c .lower-ahead);
-      upper-ahead = ahead-turn up chances (row .upper) t l (c .upper-ahead);
+          whole-parts (count-month Down P (at (row .lower))) (count-month Up P (at (row .upper)))
+          (count-after-le Down P (h .each t) (at (row .lower)) (c .parts .lower-parts .each))
+          (count-after-le Up P (h .each t) (at (row .upper)) (c .parts .upper-parts .each));
+      lower-ahead = ahead-turn Down chances (row .lower) t l (c .lower-ahead);
+      upper-ahead = ahead-turn Up chances (row .upper) t l (c .upper-ahead);
     }
   where
     P : ℕ
@@ -219,8 +214,8 @@ counting-rows-turn chances h row t l c =
 pub counting-rows-end : (chances : List ℕ) (row : CountRow) (t : ℕ) → t ≡ length chances → Counting chances row t → row ≡ count-rows chances
 unfolding count-rows
 counting-rows-end chances row t e c =
-    let low : row .lower ≡ tabulate places (count-row down chances) = ahead-end down chances (row .lower) t e (c .parts .lower-length) (c .lower-ahead) in
-    let high : row .upper ≡ tabulate places (count-row up chances) = ahead-end up chances (row .upper) t e (c .parts .upper-length) (c .upper-ahead) in
+    let low : row .lower ≡ tabulate places (count-row Down chances) = ahead-end Down chances (row .lower) t e (c .parts .lower-length) (c .lower-ahead) in
+    let high : row .upper ≡ tabulate places (count-row Up chances) = ahead-end Up chances (row .upper) t e (c .parts .upper-length) (c .upper-ahead) in
     λ i. record { lower = low i; upper = high i }
 
 -- the answer of a refusal, and of the rows of a plan's chances
@@ -246,7 +241,7 @@ module _ (h : Head) (row : List ℕ) (accepted : Accepted h row) (rows : CountRo
   unfolding count-rows
   count-encloses k l =
       let lower : getD (rows .lower) k 0 ≡ count-lower (plan-of h row) k =
-      ap (λ r. getD (r .lower) k 0) are ∙ getD-tabulate places (count-row down (plan-of h row .chances)) k l in
+      ap (λ r. getD (r .lower) k 0) are ∙ getD-tabulate places (count-row Down (plan-of h row .chances)) k l in
       let upper : getD (rows .upper) k 0 ≡ count-upper (plan-of h row) k =
-      ap (λ r. getD (r .upper) k 0) are ∙ getD-tabulate places (count-row up (plan-of h row .chances)) k l in
+      ap (λ r. getD (r .upper) k 0) are ∙ getD-tabulate places (count-row Up (plan-of h row .chances)) k l in
       rw (lower, upper) (count-enclosure h row accepted k)

@@ -6,7 +6,8 @@ use native.Mathlib.Omega.{arith}
 use borrow.Author.Tests.{ne-eqb}
 use Rattle.model.specs.declared.Head.{Head}
 use Rattle.model.specs.declared.Question.the-variants.{Survive, High}
-use Rattle.model.specs.Scale.{S, down, up}
+use Rattle.model.specs.declared.Rounding.the-variants.{Down, Up}
+use Rattle.model.specs.Scale.{S}
 use Rattle.model.specs.Sums.{sum}
 use Rattle.model.specs.Plan.{plan-of, horizon}
 use Rattle.model.specs.Bounds.{lower, upper, ruin-lower, ruin-upper}
@@ -42,7 +43,7 @@ pub high-below-the-opening :
 unfolding answer plan-of
 high-below-the-opening h row room L l =
     let none = high-exceeded (plan-of h row) L l .1 in
-    zeros-are (ask-refusal (record { head = h; question = High L }) row room) _ _ (none down) (none up)
+    zeros-are (ask-refusal (record { head = h; question = High L }) row room) _ _ (none Down) (none Up)
 
 -- "The exact chances of all months and of survival make up the whole, so S lies between the two totals once the survival bounds are added": of one plan
 -- survival is asked, and ruin in each month, each call with a workspace of its own length; where none is refused, the numbers answered keep to it.

@@ -11,7 +11,7 @@ use Rattle.engine.specs.declared.Answer.{Answer}
 use Rattle.engine.specs.declared.CountRow.{CountRow}
 use Rattle.engine.specs.declared.CountAnswer.{CountAnswer}
 use Rattle.model.specs.Limits.{places}
-use Rattle.model.specs.Scale.{down, up}
+use Rattle.model.specs.declared.Rounding.the-variants.{Down, Up}
 use Rattle.model.specs.Plan.{Plan, plan-of}
 use Rattle.model.specs.CountRow.{count-row, tabulate}
 use Rattle.model.specs.Bounds.{lower, upper, ruin-lower, ruin-upper}
@@ -52,7 +52,7 @@ ruin-workspace-after h t row workspace = cleared-after (ruin-refusal h t row (le
 -- "It comes back whole, as a row of … lower and a row of … upper bounds"
 unfoldable pub count-rows : List ℕ → CountRow
 count-rows chances =
-    record { lower = tabulate places (count-row down chances); upper = tabulate places (count-row up chances) }
+    record { lower = tabulate places (count-row Down chances); upper = tabulate places (count-row Up chances) }
 
 -- the count row of a refusal
 unfoldable pub count-refused : ℕ → CountAnswer

@@ -4,7 +4,7 @@ use mathlib.Core.Path.{_≡_}
 use lib.ListN.{length}
 use Rattle.model.specs.Limits.{places}
 use Rattle.engine.specs.declared.CountRow.{CountRow}
-use Rattle.model.specs.Scale.{down, up}
+use Rattle.model.specs.declared.Rounding.the-variants.{Down, Up}
 use Rattle.model.specs.CountRow.{count-month, tabulate}
 use Rattle.claims.specs.Values.{Parts}
 use Rattle.month_rule.specs.Rows.{at}
@@ -20,6 +20,6 @@ pub record CountParts (row : CountRow) : Type 0 where
 unfoldable pub rows-after : ℕ → CountRow → CountRow
 rows-after P row =
     record {
-      lower = tabulate places (count-month down P (at (row .lower)));
-      upper = tabulate places (count-month up P (at (row .upper)));
+      lower = tabulate places (count-month Down P (at (row .lower)));
+      upper = tabulate places (count-month Up P (at (row .upper)));
     }

@@ -7,7 +7,7 @@ use Rattle.model.specs.declared.Head.{Head}
 use Rattle.engine.specs.declared.bounds.LastRows.{LastRows}
 use Rattle.engine.specs.declared.bounds.LastRows.the-variants.{Placed, Ruin}
 use Rattle.month_rule.specs.declared.rows.Shape.{Shape}
-use Rattle.model.specs.Scale.{Rounding}
+use Rattle.model.specs.declared.Rounding.{Rounding}
 use Rattle.model.specs.Plan.{Plan}
 use Rattle.model.specs.Levels.{row-levels}
 use Rattle.model.specs.MonthRule.{Row, month, values, all-placed, ruin-row}

@@ -9,7 +9,7 @@ ghost use mathlib.Core.Path.{_≡_};
 ghost use mathlib.Core.List.{_++_};
 ghost use Prim.Native.Nat.{_*_, _≤_};
 ghost use lib.ListN.{length, drop, replicate};
-ghost use Rattle.model.specs.Scale.{down, up};
+ghost use Rattle.model.specs.declared.Rounding.the-variants.{Down, Up};
 ghost use Rattle.model.specs.Plan.{plan-of};
 ghost use Rattle.model.specs.Refusal.{Accepted};
 ghost use Rattle.month_rule.specs.Shapes.{rows-size};
@@ -56,7 +56,7 @@ pub fn work_out(
     requires { ⌜ Workable head months shape (length (now workspace)) ⌝ }
     requires { ⌜ LastFits last shape (plan-of head (now row) .severity) (plan-of head (now row) .tail) ⌝ }
     ensures answered { λ r.
-        ⌜ r ≡ bounds-answer 0 (opening-value down (plan-of head (now (row .entry))) months shape last) (opening-value up (plan-of head (now (row .entry))) months shape last) ⌝ }
+        ⌜ r ≡ bounds-answer 0 (opening-value Down (plan-of head (now (row .entry))) months shape last) (opening-value Up (plan-of head (now (row .entry))) months shape last) ⌝ }
     ensures cleared { λ _.
         ⌜ now (workspace .exit) ≡ replicate (2 * rows-size shape) 0 ++ drop (2 * rows-size shape) (now (workspace .entry)) ⌝ }
 {

@@ -2,7 +2,7 @@
 ghost use mathlib.Core.Path.{_≡_};
 ghost use Prim.Native.Nat.{_*_, _-_, _<_};
 ghost use lib.ListN.{length, take, drop, replicate};
-ghost use Rattle.model.specs.Scale.{down, up};
+ghost use Rattle.model.specs.declared.Rounding.the-variants.{Down, Up};
 ghost use Rattle.model.specs.Levels.{largest-level};
 ghost use Rattle.model.specs.MonthRule.{month, values};
 ghost use Rattle.claims.specs.Values.{Parts};
@@ -32,8 +32,8 @@ fn put_last(
 )
     requires { ⌜ (length (now halves) ≡ 2 * rows-size shape) × (top < shape .width) ⌝ }
     requires { ⌜ LastFits last shape (now severity) tail ⌝ }
-    ensures lower { λ _. ⌜ LastIn last down (now (severity .entry)) tail shape top (take (rows-size shape) (now (halves .exit))) ⌝ }
-    ensures upper { λ _. ⌜ LastIn last up (now (severity .entry)) tail shape top (drop (rows-size shape) (now (halves .exit))) ⌝ }
+    ensures lower { λ _. ⌜ LastIn last Down (now (severity .entry)) tail shape top (take (rows-size shape) (now (halves .exit))) ⌝ }
+    ensures upper { λ _. ⌜ LastIn last Up (now (severity .entry)) tail shape top (drop (rows-size shape) (now (halves .exit))) ⌝ }
     ensures parts { λ _. ⌜ Parts (now (halves .exit)) ⌝ }
 {
     match last {
@@ -56,9 +56,9 @@ pub fn bounds_from(
     requires { ⌜ PlanTerms (now severity) (now chances) ⌝ }
     requires { ⌜ LastFits last shape (now severity) tail ⌝ }
     ensures lower { λ r.
-        ⌜ r .lower ≡ values (month down (now (severity .entry))) (rule-by shape) (last-rows last down (now (severity .entry)) tail) (now (chances .entry)) (shape .rows - 1) opening ⌝ }
+        ⌜ r .lower ≡ values (month Down (now (severity .entry))) (rule-by shape) (last-rows last Down (now (severity .entry)) tail) (now (chances .entry)) (shape .rows - 1) opening ⌝ }
     ensures upper { λ r.
-        ⌜ r .upper ≡ values (month up (now (severity .entry))) (rule-by shape) (last-rows last up (now (severity .entry)) tail) (now (chances .entry)) (shape .rows - 1) opening ⌝ }
+        ⌜ r .upper ≡ values (month Up (now (severity .entry))) (rule-by shape) (last-rows last Up (now (severity .entry)) tail) (now (chances .entry)) (shape .rows - 1) opening ⌝ }
     ensures cleared { λ _. ⌜ now (workspace .exit) ≡ replicate (length (now (workspace .entry))) 0 ⌝ }
 {
     let top = opening + GAIN * chances.len();

@@ -1,9 +1,8 @@
 // The count row, month by month.
 use crate::CountAnswer;
 use crate::CountRow;
+use model::Rounding;
 use model::limits;
-use month_rule::value::ROUND_DOWN;
-use month_rule::value::ROUND_UP;
 use month_rule::value::mixture;
 ghost use mathlib.Core.Path.{_≡_};
 ghost use Prim.Native.Nat.{_<_, _≤_};
@@ -12,21 +11,21 @@ ghost use lib.ListN.{length};
 ghost use Rattle.model.specs.Scale.{S};
 ghost use Rattle.model.specs.CountRow.{count-month, tabulate};
 ghost use Rattle.claims.specs.Values.{Parts};
-ghost use Rattle.month_rule.specs.Rows.{at, round-by};
+ghost use Rattle.month_rule.specs.Rows.{at};
 ghost use Rattle.engine.specs.Counts.{CountParts, rows-after};
 ghost use Rattle.engine.specs.Answers.{count-rows, count-refused};
 
 // A row through one month, in place from the last place down: place k reads the places k and k - 1.
-fn count_month(row: &mut [u32], chance: u32, bias: u64)
-    requires { ⌜ (0 < length (now row)) × Parts (now row) × (chance ≤ S) × (bias < S) ⌝ }
-    ensures { λ _. ⌜ now (row .exit) ≡ tabulate (length (now (row .entry))) (count-month (round-by bias) chance (at (now (row .entry)))) ⌝ }
+fn count_month(row: &mut [u32], chance: u32, round: Rounding)
+    requires { ⌜ (0 < length (now row)) × Parts (now row) × (chance ≤ S) ⌝ }
+    ensures { λ _. ⌜ now (row .exit) ≡ tabulate (length (now (row .entry))) (count-month round chance (at (now (row .entry)))) ⌝ }
 {
     let mut k = row.len() - 1;
     while k > 0 {
-        row[k] = mixture(chance, row[k], row[k - 1], bias);
+        row[k] = mixture(chance, row[k], row[k - 1], round);
         k -= 1;
     }
-    row[0] = mixture(chance, row[0], 0, bias);
+    row[0] = mixture(chance, row[0], 0, round);
 }
 
 // The answer of a refusal.
@@ -62,8 +61,8 @@ impl CountRow {
     {
         let mut lower = self.lower;
         let mut upper = self.upper;
-        count_month(&mut lower, chance, ROUND_DOWN);
-        count_month(&mut upper, chance, ROUND_UP);
+        count_month(&mut lower, chance, Rounding::Down);
+        count_month(&mut upper, chance, Rounding::Up);
         self.lower = lower;
         self.upper = upper;
         self

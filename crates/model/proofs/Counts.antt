@@ -7,7 +7,9 @@ use native.Mathlib.Nat.{mul-add, add-mul, mul-assoc, mul-comm, mul-left-comm, mu
 use native.Mathlib.Omega.{arith}
 use lib.Dec.{eqb, eqb·zero-suc, eqb·suc-zero, eqb·suc-suc}
 use lib.ListN.{length, getD}
-use Rattle.model.specs.Scale.{S, Rounding, down, up}
+use Rattle.model.specs.declared.Rounding.{Rounding}
+use Rattle.model.specs.declared.Rounding.the-variants.{Down, Up}
+use Rattle.model.specs.Scale.{S, quotient}
 use Rattle.model.specs.Sums.{total, count}
 use Rattle.model.specs.Plan.{Plan, nth}
 use Rattle.model.specs.History.{Event, no-claim, claim, tail-claim, History, is-claim, claims}
@@ -16,7 +18,8 @@ use Rattle.model.specs.MonthRule.{Row}
 use Rattle.model.specs.CountRow.{one-before, count-month, exact-count-month, no-months, after-months, count-row, tabulate}
 use Rattle.model.specs.Bounds.{live-months, month-gap}
 use Rattle.model.proofs.SumLaws.{sum-nth-times, pow-two-more}
-use Rattle.model.proofs.Month.{Direction, times-right, Within, mixture-le, round-gap, round-whole}
+use Rattle.model.proofs.Quotients.{Direction, times-right, quotient-le, quotient-gap, quotient-whole}
+use Rattle.model.proofs.Month.{scale-positive, mixture-le}
 use Rattle.model.proofs.Values.{live-months-idle, live-months-live}
 use Rattle.model.proofs.Histories.{weigh, weight-is, weigh-end, weigh-split, weigh-none, claims-weigh, claims-quiet, claims-more}
 
@@ -43,8 +46,8 @@ count-month-encloses :
     (k : ℕ) → rel (count-month round P X k * (S * (S * D))) (exact-count-month P E k)
 unfolding count-month exact-count-month
 count-month-encloses {rel} {round} d P X E D h k =
-    rw (← mul-assoc (round N) S (S * D), mul-comm S D)
-    (d .then (times-right d (D * S) (d .rounds N))
+    rw (← mul-assoc (quotient round N S) S (S * D), mul-comm S D)
+    (d .then (times-right d (D * S) (d .rounds N S scale-positive))
     (rw (← mul-assoc N D S, add-mul (P * one-before X k) ((S - P) * X k) D, mul-assoc P (one-before X k) D, mul-assoc (S - P) (X k) D)
     (times-right d S
     (d .plus (d .times P (before-rel (λ a e. rel (a * D) e) (rw zero-mul (d .same 0)) X E h k)) (d .times (S - P) (h k))))))
@@ -58,9 +61,9 @@ pub record CountFits (round : Rounding) (P : ℕ) (X : Row) (k : ℕ) : Type 0 w
   pub value : count-month round P X k ≤ S
 
 pub count-month-fits :
-    (round : Rounding) → Within round → (P : ℕ) → P ≤ S → (X : Row) → ((k : ℕ) → X k ≤ S) → (k : ℕ) → CountFits round P X k
+    (round : Rounding) (P : ℕ) → P ≤ S → (X : Row) → ((k : ℕ) → X k ≤ S) → (k : ℕ) → CountFits round P X k
 unfolding count-month
-count-month-fits round within P hP X h k = record { parts = m; value = within _ m }
+count-month-fits round P hP X h k = record { parts = m; value = quotient-le round _ S S scale-positive m }
   where
     m : P * one-before X k + (S - P) * X k ≤ S * S
     m =
@@ -69,10 +72,10 @@ count-month-fits round within P hP X h k = record { parts = m; value = within _ 
 
 -- a month adds one part to the gap, and none where its chance is 0
 count-gap-live :
-    (P : ℕ) → P ≤ S → (X X′ : Row) (g : ℕ) → ((k : ℕ) → X′ k ≤ X k + g) → (k : ℕ) → count-month up P X′ k ≤ count-month down P X k + (g + 1)
+    (P : ℕ) → P ≤ S → (X X′ : Row) (g : ℕ) → ((k : ℕ) → X′ k ≤ X k + g) → (k : ℕ) → count-month Up P X′ k ≤ count-month Down P X k + (g + 1)
 unfolding count-month
 count-gap-live P hP X X′ g h k =
-    round-gap (P * one-before X k + (S - P) * X k) (P * one-before X′ k + (S - P) * X′ k) g
+    quotient-gap (P * one-before X k + (S - P) * X k) (P * one-before X′ k + (S - P) * X′ k) S g scale-positive
     (omega (
       arith,
       simp mul-add at (mul-le-mul-left P (before-rel (λ a b. b ≤ a + g) (omega arith) X X′ h k)),
@@ -80,9 +83,9 @@ count-gap-live P hP X X′ g h k =
       mixture-le P g g g hP (le-refl g) (le-refl g),
     ))
 
-count-gap-idle : (X X′ : Row) (g : ℕ) → ((k : ℕ) → X′ k ≤ X k + g) → (k : ℕ) → count-month up 0 X′ k ≤ count-month down 0 X k + g
+count-gap-idle : (X X′ : Row) (g : ℕ) → ((k : ℕ) → X′ k ≤ X k + g) → (k : ℕ) → count-month Up 0 X′ k ≤ count-month Down 0 X k + g
 unfolding count-month
-count-gap-idle X X′ g h k = simp (zero-mul, zero-add, sub-zero) (round-whole (X k) (X′ k) g (h k))
+count-gap-idle X X′ g h k = simp (zero-mul, zero-add, sub-zero) (quotient-whole (X k) (X′ k) S g scale-positive (h k))
 
 -- and over all months
 after-months-encloses :
@@ -98,26 +101,26 @@ after-months-encloses {rel} {round} d (P ∷ Ps) X E D h k =
     more B = rw (mul-assoc S (S * B) D, mul-assoc S B D, mul-left-comm B S (S * D), mul-left-comm B S D)
 
 after-months-fit :
-    (round : Rounding) → Within round → (Ps : List ℕ) → ((i : ℕ) → getD Ps i 0 ≤ S) → (X : Row) → ((k : ℕ) → X k ≤ S) →
+    (round : Rounding) (Ps : List ℕ) → ((i : ℕ) → getD Ps i 0 ≤ S) → (X : Row) → ((k : ℕ) → X k ≤ S) →
     (k : ℕ) → after-months (count-month round) Ps X k ≤ S
 unfolding after-months
-after-months-fit round within [] hP X h = h
-after-months-fit round within (P ∷ Ps) hP X h =
-    after-months-fit round within Ps (λ i. hP (suc i)) (count-month round P X) (λ k. count-month-fits round within P (hP 0) X h k .value)
+after-months-fit round [] hP X h = h
+after-months-fit round (P ∷ Ps) hP X h =
+    after-months-fit round Ps (λ i. hP (suc i)) (count-month round P X) (λ k. count-month-fits round P (hP 0) X h k .value)
 
 after-months-gap :
     (Ps : List ℕ) → ((i : ℕ) → getD Ps i 0 ≤ S) → (X X′ : Row) (g : ℕ) → ((k : ℕ) → X′ k ≤ X k + g) →
-    (k : ℕ) → after-months (count-month up) Ps X′ k ≤ after-months (count-month down) Ps X k + (g + month-gap * live-months Ps)
+    (k : ℕ) → after-months (count-month Up) Ps X′ k ≤ after-months (count-month Down) Ps X k + (g + month-gap * live-months Ps)
 unfolding after-months
 after-months-gap [] hP X X′ g h k = omega (arith, h k)
 after-months-gap (zero ∷ Ps) hP X X′ g h k =
     rw live-months-idle
-    (after-months-gap Ps (λ i. hP (suc i)) (count-month down 0 X) (count-month up 0 X′) g (count-gap-idle X X′ g h) k)
+    (after-months-gap Ps (λ i. hP (suc i)) (count-month Down 0 X) (count-month Up 0 X′) g (count-gap-idle X X′ g h) k)
 after-months-gap (suc P ∷ Ps) hP X X′ g h k =
     rw live-months-live
     (omega (
       arith,
-      after-months-gap Ps (λ i. hP (suc i)) (count-month down (suc P) X) (count-month up (suc P) X′) (g + 1) (count-gap-live (suc P) (hP 0) X X′ g h) k,
+      after-months-gap Ps (λ i. hP (suc i)) (count-month Down (suc P) X) (count-month Up (suc P) X′) (g + 1) (count-gap-live (suc P) (hP 0) X X′ g h) k,
     ))
 
 -- two exact months can be taken in either order
@@ -225,30 +228,31 @@ count-row-encloses d Ps k =
     rw mul-one at (after-months-encloses d Ps no-months no-months 1 (λ j. rw mul-one (d .same (no-months j))) k)
 
 pub count-row-fits :
-    (round : Rounding) → Within round → (Ps : List ℕ) → ((i : ℕ) → getD Ps i 0 ≤ S) → (k : ℕ) → count-row round Ps k ≤ S
+    (round : Rounding) (Ps : List ℕ) → ((i : ℕ) → getD Ps i 0 ≤ S) → (k : ℕ) → count-row round Ps k ≤ S
 unfolding count-row
-count-row-fits round within Ps hP = after-months-fit round within Ps hP no-months no-months-fit
+count-row-fits round Ps hP = after-months-fit round Ps hP no-months no-months-fit
 
 pub count-row-gap :
-    (Ps : List ℕ) → ((i : ℕ) → getD Ps i 0 ≤ S) → (k : ℕ) → count-row up Ps k ≤ count-row down Ps k + month-gap * live-months Ps
+    (Ps : List ℕ) → ((i : ℕ) → getD Ps i 0 ≤ S) → (k : ℕ) → count-row Up Ps k ≤ count-row Down Ps k + month-gap * live-months Ps
 unfolding count-row
 count-row-gap Ps hP k = rw zero-add at (after-months-gap Ps hP no-months no-months 0 (λ j. omega arith) k)
 
 -- a row that is 0 above a place is 0 above the next place after a month …
 above-month :
-    (round : Rounding) → round 0 ≡ 0 → (P j : ℕ) (X : Row) → ((k : ℕ) → j < k → X k ≡ 0) →
+    (round : Rounding) (P j : ℕ) (X : Row) → ((k : ℕ) → j < k → X k ≡ 0) →
     (k : ℕ) → suc j < k → count-month round P X k ≡ 0
 unfolding count-month one-before
-above-month round none P j X h zero l = absurd (omega arith)
-above-month round none P j X h (suc k) l = rw (h k (omega arith), h (suc k) (omega arith), mul-zero P, mul-zero (S - P)) none
+above-month round P j X h zero l = absurd (omega arith)
+above-month round P j X h (suc k) l =
+    rw (h k (omega arith), h (suc k) (omega arith), mul-zero P, mul-zero (S - P)) (omega (arith, quotient-le round 0 S 0 scale-positive (omega arith)))
 
 after-months-above :
-    (round : Rounding) → round 0 ≡ 0 → (Ps : List ℕ) (j : ℕ) (X : Row) → ((k : ℕ) → j < k → X k ≡ 0) →
+    (round : Rounding) (Ps : List ℕ) (j : ℕ) (X : Row) → ((k : ℕ) → j < k → X k ≡ 0) →
     (k : ℕ) → j + length Ps < k → after-months (count-month round) Ps X k ≡ 0
 unfolding after-months
-after-months-above round none [] j X h k l = h k (omega arith)
-after-months-above round none (P ∷ Ps) j X h k l =
-    after-months-above round none Ps (suc j) (count-month round P X) (above-month round none P j X h) k (omega arith)
+after-months-above round [] j X h k l = h k (omega arith)
+after-months-above round (P ∷ Ps) j X h k l =
+    after-months-above round Ps (suc j) (count-month round P X) (above-month round P j X h) k (omega arith)
 
 nothing-above : (k : ℕ) → 0 < k → no-months k ≡ 0
 unfolding no-months
@@ -256,6 +260,6 @@ nothing-above zero l = absurd (omega arith)
 nothing-above (suc k) l = refl
 
 -- … so after n months it is 0 above n
-pub count-row-above : (round : Rounding) → round 0 ≡ 0 → (Ps : List ℕ) (k : ℕ) → length Ps < k → count-row round Ps k ≡ 0
+pub count-row-above : (round : Rounding) (Ps : List ℕ) (k : ℕ) → length Ps < k → count-row round Ps k ≡ 0
 unfolding count-row
-count-row-above round none Ps k l = after-months-above round none Ps 0 no-months nothing-above k (omega arith)
+count-row-above round Ps k l = after-months-above round Ps 0 no-months nothing-above k (omega arith)

@@ -10,8 +10,10 @@ use lib.IntN.{pos, negsuc}
 use lib.ListN.{length, getD, take, drop, length-drop}
 use lib.Seq.{take-suc, take-all, split-at, length-take-le, getD-drop}
 use borrow.Author.Tests.{le-leb, lt-leb}
+use Rattle.model.specs.declared.Rounding.{Rounding}
+use Rattle.model.specs.declared.Rounding.the-variants.{Down, Up}
 use Rattle.model.specs.declared.Question.the-variants.{Survive}
-use Rattle.model.specs.Scale.{S, Rounding, down, up}
+use Rattle.model.specs.Scale.{S}
 use Rattle.model.specs.Sums.{sum, total, all, count}
 use Rattle.model.specs.Plan.{nth}
 use Rattle.model.specs.Levels.{gain}
@@ -21,7 +23,8 @@ use Rattle.model.specs.MonthRule.{Row, exact-month, values, rule-of, rui
 use Rattle.model.specs.Bounds.{live-months, month-gap, RuinLimits}
 use Rattle.model.proofs.SumLaws.{sum-nth-from, sum-telescope, total-drop-le}
 use Rattle.model.proofs.LevelLaws.{gain-some}
-use Rattle.model.proofs.Month.{Direction, scale-positive, Within, limit, scale-limit, round-gap, round-whole}
+use Rattle.model.proofs.Quotients.{Direction, quotient-le, quotient-gap, quotient-whole}
+use Rattle.model.proofs.Month.{scale-positive, limit, scale-limit}
 use Rattle.model.proofs.Values.{take-fits, values-times, live-months-live}
 use Rattle.model.proofs.Histories.{weigh, weigh-split, weigh-none, weigh-same, weigh-either, weigh-all}
 use Rattle.model.proofs.Unrounded.{and-true, and-assoc, claim-ruins, claim-leaves, Condition, Leads, carried-weigh}
@@ -178,15 +181,15 @@ pub ruin-row-encloses :
     {rel : ℕ → ℕ → Type 0} {round : Rounding} (d : Direction rel round) (F : List ℕ) (tail P s : ℕ) →
     rel (ruin-row round F tail P s * S) (P * ruin-weight F tail (s + gain))
 unfolding ruin-row
-ruin-row-encloses d F tail P s = d .rounds (P * ruin-weight F tail (s + gain))
+ruin-row-encloses d F tail P s = d .rounds (P * ruin-weight F tail (s + gain)) S scale-positive
 
 -- … its two roundings are apart by at most that month's allowance …
-pub ruin-row-gap : (F : List ℕ) (tail P s : ℕ) → ruin-row up F tail P s ≤ ruin-row down F tail P s + month-gap * live-months (P ∷ [])
+pub ruin-row-gap : (F : List ℕ) (tail P s : ℕ) → ruin-row Up F tail P s ≤ ruin-row Down F tail P s + month-gap * live-months (P ∷ [])
 unfolding ruin-row count live-months
-ruin-row-gap F tail zero s = rw (zero-mul (ruin-weight F tail (s + gain))) (rw (mul-zero S) at (round-whole 0 0 0 (le-refl 0)))
+ruin-row-gap F tail zero s = rw (zero-mul (ruin-weight F tail (s + gain))) (rw (mul-zero S) at (quotient-whole 0 0 S 0 scale-positive (le-refl 0)))
 ruin-row-gap F tail (suc P) s =
     rw (live-months-live P [])
-    (omega (arith, round-gap (suc P * ruin-weight F tail (s + gain)) (suc P * ruin-weight F tail (s + gain)) 0 (omega arith)))
+    (omega (arith, quotient-gap (suc P * ruin-weight F tail (s + gain)) (suc P * ruin-weight F tail (s + gain)) S 0 scale-positive (omega arith)))
 
 -- … and nothing passes S × S, or S once it is divided.
 module _ (F : List ℕ) (tail : ℕ) (whole : total F + tail ≡ S) where
@@ -194,9 +197,9 @@ module _ (F : List ℕ) (tail : ℕ) (whole : total F + tail ≡ S) where
   unfolding ruin-weight
   ruin-weight-fits r = omega (arith, total-drop-le (r - 1) F)
 
-  pub ruin-row-fits : (round : Rounding) → Within round → (P : ℕ) → P ≤ S → (s : ℕ) → ruin-row round F tail P s ≤ S
+  pub ruin-row-fits : (round : Rounding) (P : ℕ) → P ≤ S → (s : ℕ) → ruin-row round F tail P s ≤ S
   unfolding ruin-row
-  ruin-row-fits round within P hP s = within _ (mul-le-mul hP (ruin-weight-fits (s + gain)))
+  ruin-row-fits round P hP s = quotient-le round _ S S scale-positive (mul-le-mul hP (ruin-weight-fits (s + gain)))
 
   pub ruin-limited : (P : ℕ) → P ≤ S → (s : ℕ) → RuinLimits F tail P s
   ruin-limited P hP s =

@@ -3,6 +3,7 @@ pub mod SumLaws
 pub mod LevelLaws
 pub mod Facts
 pub mod Rooms
+pub mod Quotients
 pub mod Month
 pub mod FilledLaws
 pub mod Values

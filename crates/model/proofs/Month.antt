@@ -1,17 +1,28 @@
--- Laws of one month over rows: the claim sum, the two roundings, and what a month keeps of its rows.
+-- Laws of one month over rows: the claim sum, the month in machine numbers, and what a month keeps of its rows.
 use mathlib.Core.Path.{_≡_, refl, sym, _∙_, ap, ap₂}
 use mathlib.Core.List.{List, [], _∷_}
-use Prim.Native.Nat.{ℕ, zero, suc, _+_, _*_, _-_, _≤_, zero-le, _<_, min}
-use native.Mathlib.Nat.{le-refl, add-le-add, suc-min-suc, min-zero, mul-le-mul, mul-le-mul-left, mul-le-mul-right, mul-add, add-mul, mul-assoc, mul-zero, zero-mul, mul-comm, mul-mul-mul-comm, le-trans, sub-add-cancel, sub-zero, add-zero}
+use Prim.Native.Nat.{ℕ, zero, suc, _+_, _*_, _-_, _/_, _%_, _≤_, zero-le, _<_, min}
+use native.Mathlib.Nat.{le-refl, suc-min-suc, min-zero, mul-le-mul, mul-le-mul-left, mul-le-mul-right, mul-add, add-mul, mul-assoc, mul-right-comm, mul-zero, zero-mul, mul-pos, le-trans, sub-add-cancel, sub-zero, add-zero, div-add-mod', mod-lt}
 use native.Mathlib.Omega.{arith}
 use lib.ListN.{length, getD}
-use Rattle.model.specs.Scale.{S, Rounding, down, up}
+use Rattle.model.specs.declared.Rounding.{Rounding}
+use Rattle.model.specs.declared.Rounding.the-variants.{Down, Up}
+use Rattle.model.specs.Scale.{S, quotient}
 use Rattle.model.specs.Sums.{sum, total}
 use Rattle.model.specs.Plan.{nth}
 use Rattle.model.specs.Levels.{gain}
 use Rattle.model.specs.MonthRule.{Row, claim-sum, month, exact-month}
+use Rattle.model.specs.SplitMonth.{split-parts, split-month}
 use Rattle.model.specs.Bounds.{month-gap, largest, MonthLimits}
 use Rattle.model.proofs.SumLaws.{sum-ext}
+use Rattle.model.proofs.Quotients.{Direction, times-right, quotient-le, quotient-gap, quotient-whole, quotient-add, quotient-twice}
+
+pub scale-positive : 0 < S
+unfolding S
+scale-positive = omega arith
+
+square-positive : 0 < S * S
+square-positive = mul-pos scale-positive scale-positive
 
 -- the claim sum by recursion on the severity list and the level
 pub claim-sum-none : (Y : Row) (r : ℕ) → claim-sum [] Y r ≡ 0
@@ -76,41 +87,8 @@ pub claim-sum-bound : (F : List ℕ) (Y : Row) (B : ℕ) → ((s : ℕ) → Y s 
 claim-sum-bound F Y B h s =
     omega (arith, claim-sum-le F Y (λ _. 0) B (λ i. omega (arith, h i)) s, claim-sum-zero F s)
 
--- A direction of rounding: the relation that a rounded number, multiplied by S again, has to the number itself.
-pub record Direction (rel : ℕ → ℕ → Type 0) (round : Rounding) : Type 0 where
-  pub same : (a : ℕ) → rel a a
-  pub then : {a b c : ℕ} → rel a b → rel b c → rel a c
-  pub plus : {a b c d : ℕ} → rel a b → rel c d → rel (a + c) (b + d)
-  pub times : (k : ℕ) {a b : ℕ} → rel a b → rel (k * a) (k * b)
-  pub rounds : (x : ℕ) → rel (round x * S) x
-
-pub downwards : Direction (λ a b. a ≤ b) down
-unfolding down S
-downwards =
-    record {
-      same = le-refl;
-      then = le-trans;
-      plus = add-le-add;
-      times = λ k l. mul-le-mul-left k l;
-      rounds = λ x. omega arith;
-    }
-
-pub upwards : Direction (λ a b. b ≤ a) up
-unfolding up S
-upwards =
-    record {
-      same = le-refl;
-      then = λ p q. le-trans q p;
-      plus = add-le-add;
-      times = λ k l. mul-le-mul-left k l;
-      rounds = λ x. omega arith;
-    }
-
 module _ {rel : ℕ → ℕ → Type 0} {round : Rounding} (d : Direction rel round) where
   open Direction d using (same, then, plus, times, rounds)
-
-  pub times-right : (k : ℕ) {a b : ℕ} → rel a b → rel (a * k) (b * k)
-  times-right k {a} {b} r = rw (mul-comm a k, mul-comm b k) (times k r)
 
   -- the claim sums over rows that enclose, at the rows' scale D
   claim-sum-encloses :
@@ -128,17 +106,13 @@ module _ {rel : ℕ → ℕ → Type 0} {round : Rounding} (d : Direction rel ro
       (s : ℕ) → rel (month round F P X Y s * (S * (S * D))) (exact-month F P EX EY s)
   unfolding month exact-month
   month-encloses F P X Y EX EY D hx hy s =
-      rw (← mul-assoc (round N) S (S * D))
-      (then (times-right (S * D) (rounds N))
-      (rw (add-mul ((S - P) * X (s + gain)) (P * A) (S * D), mul-mul-mul-comm (S - P) (X (s + gain)) S D, mul-assoc P A (S * D), ← mul-assoc A S D)
-      (plus (times ((S - P) * S) (hx (s + gain)))
-      (times P (then (times-right D (rounds (claim-sum F Y (s + gain)))) (claim-sum-encloses F Y EY D hy (s + gain)))))))
+      rw (← mul-assoc S S D, ← mul-assoc (month round F P X Y s) (S * S) D)
+      (then (times-right d D (rounds (exact-month F P X Y s) (S * S) square-positive))
+      (rw (add-mul ((S - P) * S * X (s + gain)) (P * C) D, mul-assoc ((S - P) * S) (X (s + gain)) D, mul-assoc P C D)
+      (plus (times ((S - P) * S) (hx (s + gain))) (times P (claim-sum-encloses F Y EY D hy (s + gain))))))
     where
-      A : ℕ
-      A = round (claim-sum F Y (s + gain))
-
-      N : ℕ
-      N = (S - P) * X (s + gain) + P * A
+      C : ℕ
+      C = claim-sum F Y (s + gain)
 
 -- one weight is at most all of them
 nth-le-total : (F : List ℕ) (x : ℕ) → nth F x ≤ total F
@@ -148,28 +122,12 @@ nth-le-total [] (suc i) = omega arith
 nth-le-total (f ∷ F) (suc zero) = omega arith
 nth-le-total (f ∷ F) (suc (suc i)) = omega (arith, nth-le-total F (suc i))
 
-pub scale-positive : 0 < S
-unfolding S
-scale-positive = omega arith
-
--- "A chance or weight is a whole number 0 to S": a rounding that keeps within that
-abbrev pub Within : Rounding → Type 0
-Within round = (x : ℕ) → x ≤ S * S → round x ≤ S
-
-pub down-within : Within down
-unfolding down S
-down-within x h = omega arith
-
-pub up-within : Within up
-unfolding up S
-up-within x h = omega arith
-
 -- What a month works out at a level, where no value of its rows is above S: nothing passes S × S, and the value is at most S again.
 pub record MonthFits (round : Rounding) (F : List ℕ) (P : ℕ) (X Y : Row) (s : ℕ) : Type 0 where
   pub products : (x r : ℕ) → nth F x * Y r ≤ S * S
   pub claims : claim-sum F Y (s + gain) ≤ S * S
-  pub claimed : round (claim-sum F Y (s + gain)) ≤ S
-  pub parts : (S - P) * X (s + gain) + P * round (claim-sum F Y (s + gain)) ≤ S * S
+  pub left : P * (claim-sum F Y (s + gain) % S) ≤ S * S
+  pub parts : split-parts round P (X (s + gain)) (claim-sum F Y (s + gain) / S) (claim-sum F Y (s + gain) % S) ≤ S * S
   pub value : month round F P X Y s ≤ S
 
 -- a mixture of two numbers of at most B, by parts of S, is at most B parts of S
@@ -183,24 +141,68 @@ mixture-le P a b B hP ha hb =
       ap (λ (n : ℕ). n * B) (sub-add-cancel hP),
     )
 
+-- A month from the claim sum's quotient A by S and what is left over, R.
+module _ (round : Rounding) (P X A R : ℕ) where
+  apart : (S - P) * S * X + P * (A * S + R) ≡ ((S - P) * X + P * A) * S + P * R
+  apart =
+      omega (arith, mul-right-comm (S - P) S X, add-mul ((S - P) * X) (P * A) S, mul-assoc P A S, mul-add P (A * S) R)
+
+  -- its quotient by S, rounded, is a sum of small numbers …
+  parts-are : quotient round ((S - P) * S * X + P * (A * S + R)) S ≡ split-parts round P X A R
+  unfolding split-parts
+  parts-are =
+      ap (λ (n : ℕ). quotient round n S) apart
+      ∙ quotient-add round ((S - P) * X + P * A) (P * R) S scale-positive
+
+  -- … and that divided by S once more is the quotient by S × S, whichever way they are rounded.
+  pub split-is : quotient round ((S - P) * S * X + P * (A * S + R)) (S * S) ≡ split-month round P X A R
+  unfolding split-month
+  split-is =
+      sym (quotient-twice round ((S - P) * S * X + P * (A * S + R)) S S scale-positive scale-positive)
+      ∙ ap (λ (n : ℕ). quotient round n S) parts-are
+
+  -- over numbers that do not pass S, or S × S for the claim sum
+  module _ (hP : P ≤ S) (hX : X ≤ S) (hC : A * S + R ≤ S * S) where
+    exact-fits : (S - P) * S * X + P * (A * S + R) ≤ S * (S * S)
+    exact-fits = rw (mul-assoc (S - P) S X) (mixture-le P (S * X) (A * S + R) (S * S) hP (mul-le-mul-left S hX) hC)
+
+    pub parts-fit : split-parts round P X A R ≤ S * S
+    parts-fit = rw (← parts-are) (quotient-le round _ S (S * S) scale-positive exact-fits)
+
+    pub value-fits : quotient round ((S - P) * S * X + P * (A * S + R)) (S * S) ≤ S
+    value-fits = quotient-le round _ (S * S) S square-positive (rw (mul-assoc S S S) exact-fits)
+
+-- Document 02: what is worked out in machine numbers is the month, the exact quotient by S × S.
+pub month-split :
+    (round : Rounding) (F : List ℕ) (P : ℕ) (X Y : Row) (s : ℕ) →
+    month round F P X Y s
+    ≡ split-month round P (X (s + gain)) (claim-sum F Y (s + gain) / S) (claim-sum F Y (s + gain) % S)
+unfolding month exact-month
+month-split round F P X Y s =
+    ap (λ (C : ℕ). quotient round ((S - P) * S * X (s + gain) + P * C) (S * S)) (sym (div-add-mod' (claim-sum F Y (s + gain)) S))
+    ∙ split-is round P (X (s + gain)) (claim-sum F Y (s + gain) / S) (claim-sum F Y (s + gain) % S)
+
 pub month-fits :
-    (round : Rounding) → Within round → (F : List ℕ) → total F ≤ S → (P : ℕ) → P ≤ S →
+    (round : Rounding) (F : List ℕ) → total F ≤ S → (P : ℕ) → P ≤ S →
     (X Y : Row) → ((s : ℕ) → X s ≤ S) → ((s : ℕ) → Y s ≤ S) → (s : ℕ) → MonthFits round F P X Y s
-unfolding month
-month-fits round within F hF P hP X Y hX hY s =
+unfolding month exact-month
+month-fits round F hF P hP X Y hX hY s =
     record {
       products = λ x r. mul-le-mul (le-trans (nth-le-total F x) hF) (hY r);
       claims = c;
-      claimed = within _ c;
-      parts = m;
-      value = within _ m;
+      left = mul-le-mul hP (let l : C % S < S = mod-lt C scale-positive in omega arith);
+      parts = parts-fit round P (X (s + gain)) (C / S) (C % S) hP (hX (s + gain)) whole;
+      value = rw (div-add-mod' C S) at (value-fits round P (X (s + gain)) (C / S) (C % S) hP (hX (s + gain)) whole);
     }
   where
-    c : claim-sum F Y (s + gain) ≤ S * S
+    C : ℕ
+    C = claim-sum F Y (s + gain)
+
+    c : C ≤ S * S
     c = le-trans (claim-sum-bound F Y S hY (s + gain)) (mul-le-mul-right S hF)
 
-    m : (S - P) * X (s + gain) + P * round (claim-sum F Y (s + gain)) ≤ S * S
-    m = mixture-le P (X (s + gain)) (round (claim-sum F Y (s + gain))) S hP (hX (s + gain)) (within _ c)
+    whole : C / S * S + C % S ≤ S * S
+    whole = rw (div-add-mod' C S) c
 
 -- with what rounding up adds
 pub limit : (x : ℕ) → x ≤ S * S → x + (S - 1) ≤ largest
@@ -215,61 +217,39 @@ pub month-limited : {round : Rounding} {F : List ℕ} {P : ℕ} {X Y : Row} {s :
 month-limited fits =
     record {
       product = λ x r. omega (arith, limit _ (fits .products x r));
-      claim-total = limit _ (fits .claims);
+      claim-total = omega (arith, limit _ (fits .claims));
+      left-total = limit _ (fits .left);
       month-total = limit _ (fits .parts);
     }
-
--- one division adds at most one part to the gap
-pub round-gap : (a b h : ℕ) → b ≤ a + S * h → up b ≤ down a + (h + 1)
-unfolding up down S
-round-gap a b h l = omega arith
-
--- a whole number of parts is not rounded
-pub round-whole : (a b h : ℕ) → b ≤ a + h → up (S * b) ≤ down (S * a) + h
-unfolding up down S
-round-whole a b h l = omega arith
 
 -- Upper rows that are at most g above the lower rows give an upper value at most g and a month's allowance above the lower one …
 pub month-gap-live :
     (F : List ℕ) → total F ≤ S → (P : ℕ) → P ≤ S → (X Y X′ Y′ : Row) (g : ℕ) →
     ((s : ℕ) → X′ s ≤ X s + g) → ((s : ℕ) → Y′ s ≤ Y s + g) →
-    (s : ℕ) → month up F P X′ Y′ s ≤ month down F P X Y s + (g + month-gap)
-unfolding month
+    (s : ℕ) → month Up F P X′ Y′ s ≤ month Down F P X Y s + (g + month-gap)
+unfolding month exact-month
 month-gap-live F hF P hP X Y X′ Y′ g hX hY s =
-    omega (arith, round-gap N N′ (g + 1) parts)
+    quotient-gap (exact-month F P X Y s) (exact-month F P X′ Y′ s) (S * S) g square-positive
+    (omega (
+      arith,
+      simp (mul-add, mul-assoc) at (mul-le-mul-left ((S - P) * S) (hX (s + gain))),
+      simp mul-add at (mul-le-mul-left P claims),
+      mul-assoc (S - P) S (X (s + gain)),
+      mul-assoc (S - P) S (X′ (s + gain)),
+      mul-assoc S S g,
+      mixture-le P (S * g) (S * g) (S * g) hP (le-refl (S * g)) (le-refl (S * g)),
+    ))
   where
-    A : ℕ
-    A = down (claim-sum F Y (s + gain))
-
-    A′ : ℕ
-    A′ = up (claim-sum F Y′ (s + gain))
-
-    N : ℕ
-    N = (S - P) * X (s + gain) + P * A
-
-    N′ : ℕ
-    N′ = (S - P) * X′ (s + gain) + P * A′
-
-    claims : A′ ≤ A + (g + 1)
-    claims = round-gap (claim-sum F Y (s + gain)) (claim-sum F Y′ (s + gain)) g (omega (arith, claim-sum-le F Y′ Y g hY (s + gain), mul-le-mul-right g hF))
-
-    parts : N′ ≤ N + S * (g + 1)
-    parts =
-        omega (
-          arith,
-          simp mul-add at (mul-le-mul-left (S - P) (hX (s + gain))),
-          simp mul-add at (mul-le-mul-left P claims),
-          mixture-le P g (g + 1) (g + 1) hP (omega arith) (le-refl (g + 1)),
-          mul-add P g 1,
-        )
+    claims : claim-sum F Y′ (s + gain) ≤ claim-sum F Y (s + gain) + S * g
+    claims = omega (arith, claim-sum-le F Y′ Y g hY (s + gain), mul-le-mul-right g hF)
 
 -- … and no further above it in a month with chance 0.
 pub month-gap-idle :
     (F : List ℕ) (X Y X′ Y′ : Row) (g : ℕ) → ((s : ℕ) → X′ s ≤ X s + g) →
-    (s : ℕ) → month up F 0 X′ Y′ s ≤ month down F 0 X Y s + g
-unfolding month
+    (s : ℕ) → month Up F 0 X′ Y′ s ≤ month Down F 0 X Y s + g
+unfolding month exact-month
 month-gap-idle F X Y X′ Y′ g hX s =
-    simp (zero-mul, add-zero, sub-zero) (round-whole (X (s + gain)) (X′ (s + gain)) g (hX (s + gain)))
+    simp (zero-mul, add-zero, sub-zero) (quotient-whole (X (s + gain)) (X′ (s + gain)) (S * S) g square-positive (hX (s + gain)))
 
 -- a factor common to all values of a row
 pub claim-sum-times : (F : List ℕ) (Y : Row) (k s : ℕ) → claim-sum F Y s * k ≡ claim-sum F (λ r. Y r * k) s

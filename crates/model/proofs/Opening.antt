@@ -5,9 +5,10 @@ use mathlib.Core.List.{[], zipWith}
 use Prim.Native.Nat.{ℕ, _+_, _≤_, _<_}
 use lib.Dec.{leb}
 use borrow.Author.Tests.{le-leb, lt-leb}
+use Rattle.model.specs.declared.Rounding.{Rounding}
 use Rattle.model.specs.declared.Question.{Question}
 use Rattle.model.specs.declared.Question.the-variants.{High, Low}
-use Rattle.model.specs.Scale.{S, Rounding}
+use Rattle.model.specs.Scale.{S}
 use Rattle.model.specs.Sums.{total, all}
 use Rattle.model.specs.Plan.{Plan}
 use Rattle.model.specs.History.{History, histories, history-weight, surplus-path, at-least, at-most}

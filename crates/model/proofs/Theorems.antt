@@ -11,9 +11,11 @@ use lib.Pow.{pow-add}
 use lib.Seq.{getD-drop, getD-take, length-take-le, take-suc, take-take}
 use borrow.Author.Tests.{le-leb}
 use Rattle.model.specs.declared.Head.{Head}
+use Rattle.model.specs.declared.Rounding.{Rounding}
+use Rattle.model.specs.declared.Rounding.the-variants.{Down, Up}
 use Rattle.model.specs.declared.Question.{Question}
 use Rattle.model.specs.declared.Question.the-variants.{Survive}
-use Rattle.model.specs.Scale.{S, Rounding, down, up}
+use Rattle.model.specs.Scale.{S}
 use Rattle.model.specs.Sums.{sum, product, total}
 use Rattle.model.specs.Plan.{Plan, plan-of, horizon, sizes, nth}
 use Rattle.model.specs.Levels.{gain}
@@ -28,7 +30,8 @@ use Rattle.model.specs.Refusal.{Accepted}
 use Rattle.model.proofs.Facts.{facts}
 use Rattle.model.proofs.SumLaws.{pow-two-more}
 use Rattle.model.proofs.LevelLaws.{level-later}
-use Rattle.model.proofs.Month.{Direction, downwards, upwards, times-right, scale-positive, Within, down-within, up-within, limit, month-limited}
+use Rattle.model.proofs.Quotients.{Direction, downwards, upwards, times-right}
+use Rattle.model.proofs.Month.{scale-positive, limit, month-limited}
 use Rattle.model.proofs.Values.{kept-rel, take-fits, values-enclose, values-fit, values-gap, live-months-append, last-fits, kept-fits, months-fit}
 use Rattle.model.proofs.Histories.{weight-is, weigh-all}
 use Rattle.model.proofs.Questions.{unrounded-is-exact}
@@ -234,7 +237,7 @@ module _ (h : Head) (row : List ℕ) (accepted : Accepted h row) where
       gap =
           omega (
             arith,
-            values-gap (p .severity) severity-fits (rule-of Survive) (λ _. before down t) (λ _. before up t) (month-gap * live-months (nth (p .chances) t ∷ []))
+            values-gap (p .severity) severity-fits (rule-of Survive) (λ _. before Down t) (λ _. before Up t) (month-gap * live-months (nth (p .chances) t ∷ []))
                 (λ k s. ruin-row-gap (p .severity) (p .tail) (nth (p .chances) t) s) early early-fit 0 (p .opening),
             live-months-append early (nth (p .chances) t ∷ []),
             ap live-months (one-month-more t some l),
@@ -313,83 +316,69 @@ module _ (h : Head) (row : List ℕ) (accepted : Accepted h row) where
   counts-ordered k = ordered (count-enclosure k)
 
   -- every bound is at most S
-  bound-fits : (round : Rounding) → Within round → (q : Question) → bound round p q ≤ S
+  bound-fits : (round : Rounding) (q : Question) → bound round p q ≤ S
   unfolding bound value
-  bound-fits round within q =
+  bound-fits round q =
       kept-fits (opening-allowed q) _ (p .opening)
-      (values-fit round within (p .severity) severity-fits (rule-of q) (last-of q) (last-fits q) (p .chances) chances-fit (claims-of q) (p .opening))
+      (values-fit round (p .severity) severity-fits (rule-of q) (last-of q) (last-fits q) (p .chances) chances-fit (claims-of q) (p .opening))
 
   pub bounds-fit : (q : Question) → (lower p q ≤ S) × (upper p q ≤ S)
-  bounds-fit q = (bound-fits down down-within q, bound-fits up up-within q)
+  bounds-fit q = (bound-fits Down q, bound-fits Up q)
 
-  before-fits : (round : Rounding) → Within round → (t s : ℕ) → before round t s ≤ S
-  before-fits round within t s = ruin-row-fits (p .severity) (p .tail) weights-add round within (nth (p .chances) t) (chance-fits t) s
+  before-fits : (round : Rounding) (t s : ℕ) → before round t s ≤ S
+  before-fits round t s = ruin-row-fits (p .severity) (p .tail) weights-add round (nth (p .chances) t) (chance-fits t) s
 
-  ruin-fits : (round : Rounding) → Within round → (t : ℕ) → ruin-bound round p t ≤ S
+  ruin-fits : (round : Rounding) (t : ℕ) → ruin-bound round p t ≤ S
   unfolding ruin-bound carried-back
-  ruin-fits round within t =
-      values-fit round within (p .severity) severity-fits (rule-of Survive) (λ _. before round t) (λ _ s. before-fits round within t s)
+  ruin-fits round t =
+      values-fit round (p .severity) severity-fits (rule-of Survive) (λ _. before round t) (λ _ s. before-fits round t s)
       (take (t - 1) (p .chances)) (take-fits S (t - 1) (p .chances) chances-fit) (claims-of Survive) (p .opening)
 
   pub ruins-fit : (t : ℕ) → (ruin-lower p t ≤ S) × (ruin-upper p t ≤ S)
-  ruins-fit t = (ruin-fits down down-within t, ruin-fits up up-within t)
+  ruins-fit t = (ruin-fits Down t, ruin-fits Up t)
 
   pub counts-fit : (k : ℕ) → (count-lower p k ≤ S) × (count-upper p k ≤ S)
-  counts-fit k = (count-row-fits down down-within (p .chances) chances-fit k, count-row-fits up up-within (p .chances) chances-fit k)
+  counts-fit k = (count-row-fits Down (p .chances) chances-fit k, count-row-fits Up (p .chances) chances-fit k)
 
   -- "above n they are 0"
   pub counts-above : (k : ℕ) → horizon p < k → (count-lower p k ≡ 0) × (count-upper p k ≡ 0)
-  unfolding down up S
-  counts-above k l = (count-row-above down refl (p .chances) k l, count-row-above up refl (p .chances) k l)
+  counts-above k l = (count-row-above Down (p .chances) k l, count-row-above Up (p .chances) k l)
 
-  -- "No product or sum here passes 2^60 + 2^30": what month t works out at level s with k claims left, over the months that follow it
+  -- "No sum need pass 2^62": what month t works out at level s with k claims left, over the months that follow it
   abbrev MonthWithin : Rounding → Question → (ℕ → Row) → ℕ → List ℕ → ℕ → ℕ → Type 0
   MonthWithin round q last t later k s =
       MonthLimits round (p .severity) (nth (p .chances) t) (rows-read round p q last later k)
       (claimed-row (rows-read round p q last later) (rule-of q .after-claim k)) s
 
   month-within :
-      (round : Rounding) → Within round → (q : Question) (last : ℕ → Row) → ((k s : ℕ) → last k s ≤ S) →
+      (round : Rounding) (q : Question) (last : ℕ → Row) → ((k s : ℕ) → last k s ≤ S) →
       (t : ℕ) (later : List ℕ) → ((i : ℕ) → getD later i 0 ≤ S) → (k s : ℕ) → MonthWithin round q last t later k s
-  month-within round within q last fits t later later-fit k s =
+  month-within round q last fits t later later-fit k s =
       month-limited
-      (months-fit round within (p .severity) severity-fits (rule-of q) last fits (nth (p .chances) t) (chance-fits t) later later-fit k s)
+      (months-fit round (p .severity) severity-fits (rule-of q) last fits (nth (p .chances) t) (chance-fits t) later later-fit k s)
 
   -- in a question
-  pub month-limits :
-      (q : Question) (t k s : ℕ) →
-      MonthWithin down q (last-of q) t (drop t (p .chances)) k s × MonthWithin up q (last-of q) t (drop t (p .chances)) k s
-  month-limits q t k s = (of down down-within, of up up-within)
-    where
-      of : (round : Rounding) → Within round → MonthWithin round q (last-of q) t (drop t (p .chances)) k s
-      of round within = month-within round within q (last-of q) (last-fits q) t (drop t (p .chances)) (λ i. rw getD-drop (chances-fit (t + i))) k s
+  pub month-limits : (round : Rounding) (q : Question) (t k s : ℕ) → MonthWithin round q (last-of q) t (drop t (p .chances)) k s
+  month-limits round q t k s =
+      month-within round q (last-of q) (last-fits q) t (drop t (p .chances)) (λ i. rw getD-drop (chances-fit (t + i))) k s
 
   -- in month t of a ruin in month r, and in the row before month r
   pub ruin-limits :
-      (r t k s : ℕ) →
-      MonthWithin down Survive (λ _. before down r) t (drop t (take (r - 1) (p .chances))) k s
-      × MonthWithin up Survive (λ _. before up r) t (drop t (take (r - 1) (p .chances))) k s
+      (round : Rounding) (r t k s : ℕ) →
+      MonthWithin round Survive (λ _. before round r) t (drop t (take (r - 1) (p .chances))) k s
       × RuinLimits (p .severity) (p .tail) (nth (p .chances) r) s
-  ruin-limits r t k s =
-      (of down down-within, of up up-within, ruin-limited (p .severity) (p .tail) weights-add (nth (p .chances) r) (chance-fits r) s)
-    where
-      of : (round : Rounding) → Within round → MonthWithin round Survive (λ _. before round r) t (drop t (take (r - 1) (p .chances))) k s
-      of round within =
-          month-within round within Survive (λ _. before round r) (λ _ l. before-fits round within r l) t (drop t (take (r - 1) (p .chances)))
-          (λ i. rw getD-drop (take-fits S (r - 1) (p .chances) chances-fit (t + i))) k s
+  ruin-limits round r t k s = (
+    month-within round Survive (λ _. before round r) (λ _ l. before-fits round r l) t (drop t (take (r - 1) (p .chances)))
+        (λ i. rw getD-drop (take-fits S (r - 1) (p .chances) chances-fit (t + i))) k s,
+    ruin-limited (p .severity) (p .tail) weights-add (nth (p .chances) r) (chance-fits r) s,
+  )
 
   -- the same of month t of the count row, over the row of the months before it
-  abbrev CountWithin : Rounding → ℕ → ℕ → Type 0
-  CountWithin round t k = CountLimits (nth (p .chances) t) (count-row round (take (t - 1) (p .chances))) k
-
-  count-within : (round : Rounding) → Within round → (t k : ℕ) → CountWithin round t k
-  count-within round within t k =
+  pub count-limits : (round : Rounding) (t k : ℕ) → CountLimits (nth (p .chances) t) (count-row round (take (t - 1) (p .chances))) k
+  count-limits round t k =
       record {
         month-total =
             limit _
-            (count-month-fits round within (nth (p .chances) t) (chance-fits t) (count-row round (take (t - 1) (p .chances)))
-            (count-row-fits round within (take (t - 1) (p .chances)) (take-fits S (t - 1) (p .chances) chances-fit)) k .parts);
+            (count-month-fits round (nth (p .chances) t) (chance-fits t) (count-row round (take (t - 1) (p .chances)))
+            (count-row-fits round (take (t - 1) (p .chances)) (take-fits S (t - 1) (p .chances) chances-fit)) k .parts);
       }
-
-  pub count-limits : (t k : ℕ) → CountWithin down t k × CountWithin up t k
-  count-limits t k = (count-within down down-within t k, count-within up up-within t k)

@@ -7,15 +7,18 @@ use Prim.Native.Nat.{ℕ, zero, suc, _+_, _*_, _^_, _≤_}
 use native.Mathlib.Nat.{pow-zero, add-mul, mul-assoc, one-mul, zero-mul, zero-add, le-refl}
 use native.Mathlib.Omega.{arith}
 use lib.ListN.{length, getD, take}
+use Rattle.model.specs.declared.Rounding.{Rounding}
+use Rattle.model.specs.declared.Rounding.the-variants.{Down, Up}
 use Rattle.model.specs.declared.Question.{Question}
 use Rattle.model.specs.declared.Question.the-variants.{Survive, Both, High, Low}
-use Rattle.model.specs.Scale.{S, Rounding, down, up}
+use Rattle.model.specs.Scale.{S}
 use Rattle.model.specs.Sums.{total, count}
 use Rattle.model.specs.Levels.{gain}
 use Rattle.model.specs.MonthRule.{Row, Month, Rule, month, exact-month, kept, claimed-row, month-back, values, all-placed, last-of}
 use Rattle.model.specs.Bounds.{live-months, month-gap}
 use Rattle.model.proofs.SumLaws.{pow-two-more, positive-none, positive-more}
-use Rattle.model.proofs.Month.{Direction, Within, MonthFits, claim-sum-times, month-encloses, month-fits, month-gap-live, month-gap-idle}
+use Rattle.model.proofs.Quotients.{Direction}
+use Rattle.model.proofs.Month.{MonthFits, claim-sum-times, month-encloses, month-fits, month-gap-live, month-gap-idle}
 
 -- what is related, and relates 0 to 0, stays related where levels are taken as 0
 pub kept-rel :
@@ -109,19 +112,19 @@ values-times F q last c =
 
 -- no value passes S
 pub values-fit :
-    (round : Rounding) → Within round → (F : List ℕ) → total F ≤ S → (q : Rule) (last : ℕ → Row) → ((k s : ℕ) → last k s ≤ S) →
+    (round : Rounding) (F : List ℕ) → total F ≤ S → (q : Rule) (last : ℕ → Row) → ((k s : ℕ) → last k s ≤ S) →
     (Ps : List ℕ) → ((i : ℕ) → getD Ps i 0 ≤ S) → (k s : ℕ) → values (month round F) q last Ps k s ≤ S
-values-fit round within F hF q last hl =
+values-fit round F hF q last hl =
     values-rel (λ Qs a b. a ≤ S) (month round F) (month round F) q last last (λ Qs. omega arith) hl
-    (λ P Qs hP X Y X′ Y′ hx hy s. month-fits round within F hF P hP X Y hx hy s .value)
-
-pub live-months-idle : (Ps : List ℕ) → live-months (0 ∷ Ps) ≡ live-months Ps
-unfolding live-months
-live-months-idle Ps = positive-none Ps
+    (λ P Qs hP X Y X′ Y′ hx hy s. month-fits round F hF P hP X Y hx hy s .value)
 
 pub live-months-live : (P : ℕ) (Ps : List ℕ) → live-months (suc P ∷ Ps) ≡ 1 + live-months Ps
 unfolding live-months
 live-months-live P Ps = positive-more (suc P) Ps (omega arith)
+
+pub live-months-idle : (Ps : List ℕ) → live-months (0 ∷ Ps) ≡ live-months Ps
+unfolding live-months
+live-months-idle Ps = positive-none Ps
 
 pub live-months-append : (Ps Qs : List ℕ) → live-months (Ps ++ Qs) ≡ live-months Ps + live-months Qs
 unfolding live-months count
@@ -133,15 +136,15 @@ live-months-append (suc P ∷ Ps) Qs = rw (live-months-live P (Ps ++ Qs), live-m
 pub values-gap :
     (F : List ℕ) → total F ≤ S → (q : Rule) (last last′ : ℕ → Row) (g : ℕ) → ((k s : ℕ) → last′ k s ≤ last k s + g) →
     (Ps : List ℕ) → ((i : ℕ) → getD Ps i 0 ≤ S) →
-    (k s : ℕ) → values (month up F) q last′ Ps k s ≤ values (month down F) q last Ps k s + (g + month-gap * live-months Ps)
+    (k s : ℕ) → values (month Up F) q last′ Ps k s ≤ values (month Down F) q last Ps k s + (g + month-gap * live-months Ps)
 values-gap F hF q last last′ g hl =
-    values-rel (λ Qs a b. b ≤ a + (g + month-gap * live-months Qs)) (month down F) (month up F) q last last′
+    values-rel (λ Qs a b. b ≤ a + (g + month-gap * live-months Qs)) (month Down F) (month Up F) q last last′
     (λ Qs. omega arith) (λ k s. omega (arith, hl k s)) step
   where
     step :
         (P : ℕ) (Qs : List ℕ) → P ≤ S → (X Y X′ Y′ : Row) →
         ((s : ℕ) → X′ s ≤ X s + (g + month-gap * live-months Qs)) → ((s : ℕ) → Y′ s ≤ Y s + (g + month-gap * live-months Qs)) →
-        (s : ℕ) → month up F P X′ Y′ s ≤ month down F P X Y s + (g + month-gap * live-months (P ∷ Qs))
+        (s : ℕ) → month Up F P X′ Y′ s ≤ month Down F P X Y s + (g + month-gap * live-months (P ∷ Qs))
     step zero Qs hP X Y X′ Y′ hx hy s = rw live-months-idle (month-gap-idle F X Y X′ Y′ (g + month-gap * live-months Qs) hx s)
     step (suc P) Qs hP X Y X′ Y′ hx hy s =
         rw live-months-live (omega (arith, month-gap-live F hF (suc P) hP X Y X′ Y′ (g + month-gap * live-months Qs) hx hy s))
@@ -165,12 +168,12 @@ claimed-fits X (some k) s h = h k
 
 -- what a month of the rule works out at a level, over the rows of the months that follow it
 pub months-fit :
-    (round : Rounding) → Within round → (F : List ℕ) → total F ≤ S → (q : Rule) (last : ℕ → Row) → ((k s : ℕ) → last k s ≤ S) →
+    (round : Rounding) (F : List ℕ) → total F ≤ S → (q : Rule) (last : ℕ → Row) → ((k s : ℕ) → last k s ≤ S) →
     (P : ℕ) → P ≤ S → (Ps : List ℕ) → ((i : ℕ) → getD Ps i 0 ≤ S) → (k s : ℕ) →
     MonthFits round F P (kept (q .allowed) (values (month round F) q last Ps k))
     (claimed-row (λ j. kept (q .allowed) (values (month round F) q last Ps j)) (q .after-claim k)) s
-months-fit round within F hF q last hl P hP Ps hPs k s =
-    month-fits round within F hF P hP _ _ (rows k) (λ r. claimed-fits (λ j. kept (q .allowed) (values (month round F) q last Ps j)) (q .after-claim k) r (λ j. rows j r)) s
+months-fit round F hF q last hl P hP Ps hPs k s =
+    month-fits round F hF P hP _ _ (rows k) (λ r. claimed-fits (λ j. kept (q .allowed) (values (month round F) q last Ps j)) (q .after-claim k) r (λ j. rows j r)) s
   where
     rows : (j r : ℕ) → kept (q .allowed) (values (month round F) q last Ps j) r ≤ S
-    rows j r = kept-fits (q .allowed) (values (month round F) q last Ps j) r (values-fit round within F hF q last hl Ps hPs j r)
+    rows j r = kept-fits (q .allowed) (values (month round F) q last Ps j) r (values-fit round F hF q last hl Ps hPs j r)

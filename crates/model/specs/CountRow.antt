@@ -1,7 +1,8 @@
 -- The count row, month by month.
 use Prim.Native.Nat.{ℕ, zero, suc, _+_, _*_, _-_}
 use mathlib.Core.List.{List, [], _∷_}
-use Rattle.model.specs.Scale.{S, Rounding}
+use Rattle.model.specs.declared.Rounding.{Rounding}
+use Rattle.model.specs.Scale.{S, quotient}
 use Rattle.model.specs.MonthRule.{Row}
 
 -- row(k − 1), and 0 before the row's first place
@@ -11,7 +12,7 @@ one-before row (suc k) = row k
 
 -- "Month t: (P_t × row(k − 1) + (S − P_t) × row(k)) divided by S, rounded once each way"
 unfoldable pub count-month : Rounding → ℕ → Row → Row
-count-month round P row k = round (P * one-before row k + (S - P) * row k)
+count-month round P row k = quotient round (P * one-before row k + (S - P) * row k) S
 
 -- the same "with rounding left out", multiplied by S × S as the month rule is
 unfoldable pub exact-count-month : ℕ → Row → Row

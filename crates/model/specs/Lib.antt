@@ -7,6 +7,7 @@ pub mod Levels
 pub mod History
 pub mod Exact
 pub mod MonthRule
+pub mod SplitMonth
 pub mod FilledSizes
 pub mod CountRow
 pub mod FirstClaim

@@ -5,9 +5,10 @@ use mathlib.Core.List.{List, [], _∷_}
 use mathlib.Core.Option.{Option, none, some}
 use lib.Dec.{leb}
 use lib.ListN.{length, take, drop}
+use Rattle.model.specs.declared.Rounding.{Rounding}
 use Rattle.model.specs.declared.Question.{Question}
 use Rattle.model.specs.declared.Question.the-variants.{Survive, Both, High, Low}
-use Rattle.model.specs.Scale.{S, Rounding}
+use Rattle.model.specs.Scale.{S, quotient}
 use Rattle.model.specs.Sums.{sum, total}
 use Rattle.model.specs.Plan.{Plan, nth}
 use Rattle.model.specs.Levels.{gain}
@@ -24,13 +25,13 @@ claim-sum severity next level = sum (min (level - 1) (length severity)) (λ x. n
 abbrev pub Month : Type 0
 Month = ℕ → Row → Row → Row
 
--- "A = the sum …, divided by S; V_{t-1}(s) = ((S − P_t) × V_t(s + 1) + P_t × A) divided by S"
-unfoldable pub month : Rounding → List ℕ → Month
-month round severity P quiet claimed s = round ((S - P) * quiet (s + gain) + P * round (claim-sum severity claimed (s + gain)))
-
--- the same "with rounding left out", multiplied by S × S so that it stays whole
+-- The month "with rounding left out", multiplied by S × S so that it stays whole: (S − P_t) × V_t(s + 1) + P_t × A, where A is the claim sum divided by S
 unfoldable pub exact-month : List ℕ → Month
 exact-month severity P quiet claimed s = (S - P) * S * quiet (s + gain) + P * claim-sum severity claimed (s + gain)
+
+-- Document 02: "the month's value shall be the exact quotient by S × S, rounded once down or up"
+unfoldable pub month : Rounding → List ℕ → Month
+month round severity P quiet claimed s = quotient round (exact-month severity P quiet claimed s) (S * S)
 
 -- What a question chooses in the month rule besides its last row. The rows are told apart by the number of claims left to place, which only both k
 -- looks at.
@@ -119,7 +120,7 @@ ruin-weight severity tail level = total (drop (level - 1) severity) + tail
 
 -- "For month t the value before it at level s is P_t times the weight …, divided by S and rounded each way"
 unfoldable pub ruin-row : Rounding → List ℕ → ℕ → ℕ → Row
-ruin-row round severity tail P s = round (P * ruin-weight severity tail (s + gain))
+ruin-row round severity tail P s = quotient round (P * ruin-weight severity tail (s + gain)) S
 
 -- "the month rule carries it back to the opening": a row before month t through the months t − 1 to 1, which forbid no level
 unfoldable pub carried-back : Month → Plan → ℕ → Row → ℕ

@@ -1,17 +1,13 @@
--- Parts of S, and the two ways to round a quotient by S.
+-- Parts of S, and quotients rounded either way.
 use Prim.Native.Nat.{ℕ, _+_, _-_, _/_, _^_}
+use Rattle.model.specs.declared.Rounding.{Rounding}
+use Rattle.model.specs.declared.Rounding.the-variants.{Down, Up}
 
 -- "S = 2^30 = 1,073,741,824"
 unfoldable pub S : ℕ
 S = 2 ^ 30
 
--- A rounding takes a number of parts of S × S to one of parts of S.
-abbrev pub Rounding : Type 0
-Rounding = ℕ → ℕ
-
--- "Both divisions round down for the lower bound and up for the upper."
-unfoldable pub down : Rounding
-down x = x / S
-
-unfoldable pub up : Rounding
-up x = (x + (S - 1)) / S
+-- x divided by d: the divisions "round down for the lower bound and up for the upper"
+unfoldable pub quotient : Rounding → ℕ → ℕ → ℕ
+quotient Down x d = x / d
+quotient Up x d = (x + (d - 1)) / d

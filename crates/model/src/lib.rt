@@ -4,8 +4,17 @@ pub mod limits;
 // S: chances, weights and bounds count in parts of it.
 pub const SCALE: u32 = 1 << 30;
 
+// S for products and sums, which take 64 bits.
+pub const WIDE_SCALE: u64 = SCALE as u64;
+
 // What a month adds to the fund.
 pub const GAIN: usize = 1;
+
+// Which way a quotient is rounded: down for a lower bound, up for an upper one.
+pub enum Rounding {
+    Down,
+    Up,
+}
 
 // A plan's head: months n, opening reserve u and claim sizes m.
 pub struct Head {

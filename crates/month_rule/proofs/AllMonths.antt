@@ -10,7 +10,7 @@ use borrow.Author.Tests.{le-ltb}
 use lib.Dec.{leb}
 use lib.ListN.{length, getD, take, drop}
 use lib.Seq.{take-all}
-use Rattle.model.specs.Scale.{Rounding}
+use Rattle.model.specs.declared.Rounding.{Rounding}
 use Rattle.model.specs.Levels.{gain, largest-level}
 use Rattle.model.specs.MonthRule.{Row, Rule, month, kept, claimed-row, month-back, values}
 use Rattle.model.proofs.LevelLaws.{level-start, level-next, level-from}

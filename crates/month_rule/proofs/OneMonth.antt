@@ -10,14 +10,14 @@ use native.Mathlib.Omega.{arith}
 use borrow.Author.Count.{below-more}
 use lib.ListN.{length, take, drop}
 use lib.Seq.{take-length, getD-drop}
-use Rattle.model.specs.Scale.{Rounding}
+use Rattle.model.specs.declared.Rounding.{Rounding}
 use Rattle.model.specs.Sums.{total}
 use Rattle.model.specs.Levels.{gain}
-use Rattle.model.specs.MonthRule.{Row, month, claimed-row}
+use Rattle.model.specs.MonthRule.{Row, exact-month, month, claimed-row}
 use Rattle.model.proofs.LevelLaws.{gain-some}
 use Rattle.model.proofs.Month.{claim-sum-none, claim-sum-zero}
 use Rattle.claims.specs.Values.{from-top, Parts}
-use Rattle.month_rule.specs.Rows.{at, Replaced, round-by, own-sizes, after-claim-by}
+use Rattle.month_rule.specs.Rows.{at, Replaced, own-sizes, after-claim-by}
 use Rattle.month_rule.proofs.RowLaws.{claim-sum-agree, row-before}
 use Rattle.month_rule.proofs.ManyRows.{rows-at, row-before-row}
 
@@ -25,14 +25,14 @@ use Rattle.month_rule.proofs.ManyRows.{rows-at, row-before-row}
 pub month-agree :
     (round : Rounding) (F : List ℕ) (P : ℕ) (X Y X′ Y′ : Row) (s : ℕ) →
     X (s + gain) ≡ X′ (s + gain) → ((k : ℕ) → k < s + gain → Y k ≡ Y′ k) → month round F P X Y s ≡ month round F P X′ Y′ s
-unfolding month
+unfolding month exact-month
 month-agree round F P X Y X′ Y′ s ex ey = rw (ex, claim-sum-agree F Y Y′ (s + gain) (λ k a b. ey k b))
 
 -- the row with no claims left: where claims are tallied, a claim adds nothing
 month-own :
     (round : Rounding) (F : List ℕ) (P : ℕ) (X : Row) (rows : ℕ → Row) (tallied : Bool) (s : ℕ) →
     month round (take (own-sizes tallied (length F)) F) P X (rows 0) s ≡ month round F P X (claimed-row rows (after-claim-by tallied 0)) s
-unfolding month own-sizes after-claim-by claimed-row
+unfolding month exact-month own-sizes after-claim-by claimed-row
 month-own round F P X rows true s =
     rw (claim-sum-none (rows 0) (s + gain), claim-sum-agree F (claimed-row rows none) (λ _. 0) (s + gain) nothing, claim-sum-zero F (s + gain))
   where
@@ -56,8 +56,8 @@ total-take-le (suc n) [] = zero-le
 total-take-le (suc n) (f ∷ F) = omega (arith, total-take-le n F)
 
 -- the rows before a month by the claims left, from those after it
-abbrev pub rows-before : ℕ → List ℕ → ℕ → Bool → (ℕ → Row) → ℕ → Row
-rows-before bias F P tallied rows k = month (round-by bias) F P (rows k) (claimed-row rows (after-claim-by tallied k))
+abbrev pub rows-before : Rounding → List ℕ → ℕ → Bool → (ℕ → Row) → ℕ → Row
+rows-before round F P tallied rows k = month round F P (rows k) (claimed-row rows (after-claim-by tallied k))
 
 -- a row with claims left: a claim leads to the row with one fewer
 claimed-next : (rows : ℕ → Row) (tallied : Bool) (k : ℕ) → claimed-row rows (after-claim-by tallied (suc k)) ≡ rows k
@@ -127,15 +127,15 @@ going-back-row last width live lw new old rows rows′ j h n parts row =
 replaced-by : (from count : ℕ) (new new′ : Row) (xs ys : List ℕ) → ((i : ℕ) → new i ≡ new′ i) → Replaced from count new xs ys → Replaced from count new′ xs ys
 replaced-by from count new new′ xs ys e h = record { inside = λ i l. h .inside i l ∙ e i; earlier = h .earlier; later = h .later }
 
-module _ (last width : ℕ) (tallied : Bool) (top live : ℕ) (levels : live + gain ≡ top + 1) (fits : top < width) (old F : List ℕ) (P bias : ℕ) where
+module _ (last width : ℕ) (tallied : Bool) (top live : ℕ) (levels : live + gain ≡ top + 1) (fits : top < width) (old F : List ℕ) (P : ℕ) (round : Rounding) where
   abbrev new : ℕ → Row
-  new = rows-before bias F P tallied (rows-left last width top old)
+  new = rows-before round F P tallied (rows-left last width top old)
 
   -- a row with claims left: a claim leads to the next row
   pub going-back-turn :
       (rows : List ℕ) (j : ℕ) → j < last → GoingBack last width live new old rows j →
       (rows′ : List ℕ) → length rows′ ≡ length rows → Parts rows′ →
-      Replaced (j * width) live (row-before bias F P (j * width) (j * width + width) top live rows) rows rows′ →
+      Replaced (j * width) live (row-before round F P (j * width) (j * width + width) top live rows) rows rows′ →
       GoingBack last width live new old rows′ (j + 1)
   going-back-turn rows j l h rows′ n parts row =
       going-back-row last width live (omega (arith, gain-some)) new old rows rows′ j h n parts (replaced-by (j * width) live _ _ rows rows′ same row)
@@ -149,10 +149,10 @@ module _ (last width : ℕ) (tallied : Bool) (top live : ℕ) (levels : live + g
       next : (last - (last - 1 - j)) * width ≡ j * width + width
       next = ap (λ (i : ℕ). i * width) (omega arith) ∙ suc-mul j width
 
-      same : (p : ℕ) → row-before bias F P (j * width) (j * width + width) top live rows p ≡ new (last - j) (live - 1 - p)
+      same : (p : ℕ) → row-before round F P (j * width) (j * width + width) top live rows p ≡ new (last - j) (live - 1 - p)
       same p =
           rw (own, claimed-next (rows-left last width top old) tallied (last - 1 - j), this, next, row-same top (j * width) (j * width) rows old (omega arith) (h .rest))
-          (ap (λ (Y : Row). month (round-by bias) F P (from-top top (drop (j * width) old)) Y (live - 1 - p))
+          (ap (λ (Y : Row). month round F P (from-top top (drop (j * width) old)) Y (live - 1 - p))
           (row-same top (j * width) (j * width + width) rows old (omega arith) (h .rest)))
 
   -- the row with no claims left, the last one
@@ -160,7 +160,7 @@ module _ (last width : ℕ) (tallied : Bool) (top live : ℕ) (levels : live + g
       (rows : List ℕ) (j : ℕ) → j ≡ last → GoingBack last width live new old rows j →
       (own : ℕ) → own ≡ own-sizes tallied (length F) →
       (rows′ : List ℕ) → length rows′ ≡ length rows → Parts rows′ →
-      Replaced (last * width) live (row-before bias (take own F) P (last * width) (last * width) top live rows) rows rows′ →
+      Replaced (last * width) live (row-before round (take own F) P (last * width) (last * width) top live rows) rows rows′ →
       GoingBack last width live new old rows′ (last + 1)
   going-back-end rows j all h₀ own eo rows′ n parts row =
       going-back-row last width live (omega (arith, gain-some)) new old rows rows′ last h n parts (replaced-by (last * width) live _ _ rows rows′ same row)
@@ -174,10 +174,10 @@ module _ (last width : ℕ) (tallied : Bool) (top live : ℕ) (levels : live + g
       own-row : rows-left last width top old 0 ≡ from-top top (drop (last * width) old)
       own-row = rw (sub-zero last)
 
-      same : (p : ℕ) → row-before bias (take own F) P (last * width) (last * width) top live rows p ≡ new (last - last) (live - 1 - p)
+      same : (p : ℕ) → row-before round (take own F) P (last * width) (last * width) top live rows p ≡ new (last - last) (live - 1 - p)
       same p =
           rw (none, eo, row-same top (last * width) (last * width) rows old (omega arith) (h .rest))
-          (rw (← own-row) (month-own (round-by bias) F P (rows-left last width top old 0) (rows-left last width top old) tallied (live - 1 - p)))
+          (rw (← own-row) (month-own round F P (rows-left last width top old 0) (rows-left last width top old) tallied (live - 1 - p)))
 
   -- all rows, by the claims left and the level
   pub going-back-done :

@@ -7,15 +7,16 @@ use native.Mathlib.Omega.{arith}
 use borrow.Author.Count.{below-more}
 use lib.ListN.{length, getD, take, drop, set, replicate, length-set, length-drop, drop-of-length-le}
 use lib.Seq.{length-take-le, getD-take, getD-drop, getD-set-same, getD-set-other}
-use Rattle.model.specs.Scale.{S}
+use Rattle.model.specs.declared.Rounding.{Rounding}
+use Rattle.model.specs.Scale.{S, quotient}
 use Rattle.model.specs.Levels.{gain}
-use Rattle.model.specs.MonthRule.{Row, claim-sum, month}
+use Rattle.model.specs.MonthRule.{Row, claim-sum, exact-month, month}
 use Rattle.model.specs.FilledSizes.{filled-sum}
 use Rattle.model.proofs.LevelLaws.{gain-some}
 use Rattle.model.proofs.Month.{claim-sum-none, claim-sum-ground, claim-sum-cons}
 use Rattle.model.proofs.FilledLaws.{filled-sum-is}
 use Rattle.claims.specs.Values.{from-top, Parts}
-use Rattle.month_rule.specs.Rows.{Replaced, round-by}
+use Rattle.month_rule.specs.Rows.{Replaced}
 
 -- the claim sum reads the levels above 0 and below its own
 pub claim-sum-agree :
@@ -103,15 +104,15 @@ rewriting-turn old from new rows i v h l e b =
     passed j m = others (from + j) (λ z. omega (arith, z)) ∙ h .so-far .inside j m
 
 -- a row of levels, and the places of a row one month back: after a claim the row at `claimed` is read, else the row at `quiet`
-abbrev pub row-before : ℕ → List ℕ → ℕ → ℕ → ℕ → ℕ → ℕ → List ℕ → Row
-row-before bias F P quiet claimed top live old i =
-    month (round-by bias) F P (from-top top (drop quiet old)) (from-top top (drop claimed old)) (live - 1 - i)
+abbrev pub row-before : Rounding → List ℕ → ℕ → ℕ → ℕ → ℕ → ℕ → List ℕ → Row
+row-before round F P quiet claimed top live old i =
+    month round F P (from-top top (drop quiet old)) (from-top top (drop claimed old)) (live - 1 - i)
 
-module _ (old F : List ℕ) (quiet claimed top live P bias : ℕ) (order : quiet ≤ claimed) (levels : live + gain ≡ top + 1) where
+module _ (old F : List ℕ) (quiet claimed top live P : ℕ) (round : Rounding) (order : quiet ≤ claimed) (levels : live + gain ≡ top + 1) where
   -- what a turn's claim sum reads lies beyond its place, and is still old
   pub sum-beyond :
       (rows : List ℕ) (i : ℕ) → i < live → claimed + top ≤ length rows →
-      Rewriting old quiet (row-before bias F P quiet claimed top live old) rows i →
+      Rewriting old quiet (row-before round F P quiet claimed top live old) rows i →
       (n : ℕ) (xs : List ℕ) → xs ≡ take (claimed + top - (claimed + i + 1)) (drop (claimed + i + 1) rows) → n ≡ length xs →
       (sum : ℕ) → sum ≡ filled-sum F (from-top n xs) (n + 1) → sum ≡ claim-sum F (from-top top (drop claimed old)) (top - i)
   sum-beyond rows i l fits h n xs ex en sum es =
@@ -134,8 +135,8 @@ module _ (old F : List ℕ) (quiet claimed top live P bias : ℕ) (order : quiet
 
   pub value-before :
       (i quiet-value sum : ℕ) → i < live → quiet-value ≡ getD old (quiet + i) 0 → sum ≡ claim-sum F (from-top top (drop claimed old)) (top - i) →
-      (value : ℕ) → value ≡ round-by bias ((S - P) * quiet-value + P * round-by bias sum) → value ≡ row-before bias F P quiet claimed top live old i
-  unfolding month
+      (value : ℕ) → value ≡ quotient round ((S - P) * S * quiet-value + P * sum) (S * S) → value ≡ row-before round F P quiet claimed top live old i
+  unfolding month exact-month
   value-before i quiet-value sum l e f value ev =
       let level : live - 1 - i + gain ≡ top - i = omega arith in
       let place : top - (top - i) ≡ i = omega (arith, gain-some) in

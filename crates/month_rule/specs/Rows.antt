@@ -1,5 +1,5 @@
 -- Rows of values in memory, and the words of the contracts on them.
-use Prim.Native.Nat.{ℕ, zero, suc, _+_, _-_, _/_, _<_, _≤_}
+use Prim.Native.Nat.{ℕ, zero, suc, _+_, _<_, _≤_}
 use mathlib.Core.Path.{_≡_}
 use mathlib.Core.Bool.{Bool, _&&_, cond}
 use mathlib.Core.List.{List}
@@ -7,7 +7,7 @@ use mathlib.Core.Option.{Option, none, some}
 use lib.Dec.{leb, ltb}
 use lib.ListN.{length, getD}
 use Rattle.model.specs.Limits.{max-sizes}
-use Rattle.model.specs.Scale.{S, Rounding}
+use Rattle.model.specs.Scale.{S}
 use Rattle.model.specs.Sums.{total}
 use Rattle.model.specs.MonthRule.{Row}
 use Rattle.claims.specs.Values.{Parts}
@@ -17,12 +17,11 @@ use Rattle.claims.specs.Listing.{Listing}
 abbrev pub at : List ℕ → Row
 at xs i = getD xs i 0
 
--- What a month takes beside its rows: weights that add up to at most S, the sizes of the table that are not empty, a chance, and a bias to round with.
-pub record MonthTerms (severity sizes : List ℕ) (dense chance bias : ℕ) : Type 0 where
+-- What a month takes beside its rows: weights that add up to at most S, the sizes of the table that are not empty, and a chance.
+pub record MonthTerms (severity sizes : List ℕ) (dense chance : ℕ) : Type 0 where
   pub weights-fit : total severity ≤ S
   pub listing : Listing severity sizes dense
   pub chance-fits : chance ≤ S
-  pub bias-fits : bias < S
 
 -- what all months take
 pub record PlanTerms (severity chances : List ℕ) : Type 0 where
@@ -35,10 +34,6 @@ pub record Replaced (from count : ℕ) (new : Row) (before after : List ℕ) : T
   pub inside : (i : ℕ) → i < count → at after (from + i) ≡ new i
   pub earlier : (k : ℕ) → k < from → at after k ≡ at before k
   pub later : (k : ℕ) → from + count ≤ k → at after k ≡ at before k
-
--- a division by S that rounds down at bias 0 and up at bias S − 1
-unfoldable pub round-by : ℕ → Rounding
-round-by bias x = (x + bias) / S
 
 -- the numbers from low on and below above
 unfoldable pub between : ℕ → ℕ → ℕ → Bool

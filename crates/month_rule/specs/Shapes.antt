@@ -5,7 +5,7 @@ use mathlib.Core.Bool.{Bool}
 use mathlib.Core.List.{List, [], _∷_}
 use lib.ListN.{length, drop}
 use Rattle.month_rule.specs.declared.rows.Shape.{Shape}
-use Rattle.model.specs.Scale.{Rounding}
+use Rattle.model.specs.declared.Rounding.{Rounding}
 use Rattle.model.specs.Levels.{gain, largest-level}
 use Rattle.model.specs.MonthRule.{Row, Rule, kept, month, values}
 use Rattle.claims.specs.Values.{from-top, Parts}

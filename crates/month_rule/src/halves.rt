@@ -3,7 +3,7 @@
 ghost use mathlib.Core.Path.{_≡_};
 ghost use Prim.Native.Nat.{ℕ, _*_, _<_};
 ghost use lib.ListN.{length, getD, take, drop, replicate};
-ghost use Rattle.model.specs.Scale.{down, up};
+ghost use Rattle.model.specs.declared.Rounding.the-variants.{Down, Up};
 ghost use Rattle.model.specs.Levels.{largest-level};
 ghost use Rattle.model.specs.MonthRule.{all-placed};
 ghost use Rattle.claims.specs.Values.{Parts};
@@ -13,10 +13,9 @@ ghost use Rattle.month_rule.specs.Shapes.{rows-size, values-in, HalvesIn
 use crate::months::all_months_back;
 use crate::rows::Shape;
 use crate::rows::fill;
-use crate::value::ROUND_DOWN;
-use crate::value::ROUND_UP;
 use claims::sizes::filled_above;
 use claims::sizes::gapless_sizes;
+use model::Rounding;
 
 // A lower and an upper bound in parts of S.
 pub struct Bounds {
@@ -67,9 +66,9 @@ fn listed_halves_back(
     requires { ⌜ PlanTerms (now severity) (now chances) ⌝ }
     requires { ⌜ Listing (now severity) (now sizes) dense ⌝ }
     ensures lower { λ _.
-        ⌜ TakenBack down (now (severity .entry)) shape opening (now (chances .entry)) (take (rows-size shape) (now (halves .entry))) (take (rows-size shape) (now (halves .exit))) ⌝ }
+        ⌜ TakenBack Down (now (severity .entry)) shape opening (now (chances .entry)) (take (rows-size shape) (now (halves .entry))) (take (rows-size shape) (now (halves .exit))) ⌝ }
     ensures upper { λ _.
-        ⌜ TakenBack up (now (severity .entry)) shape opening (now (chances .entry)) (drop (rows-size shape) (now (halves .entry))) (drop (rows-size shape) (now (halves .exit))) ⌝ }
+        ⌜ TakenBack Up (now (severity .entry)) shape opening (now (chances .entry)) (drop (rows-size shape) (now (halves .entry))) (drop (rows-size shape) (now (halves .exit))) ⌝ }
 {
     let half = shape.rows * shape.width;
     all_months_back(
@@ -80,7 +79,7 @@ fn listed_halves_back(
         severity,
         sizes,
         dense,
-        ROUND_DOWN,
+        Rounding::Down,
     );
     all_months_back(
         &mut halves[half..],
@@ -90,7 +89,7 @@ fn listed_halves_back(
         severity,
         sizes,
         dense,
-        ROUND_UP,
+        Rounding::Up,
     );
 }
 
@@ -106,9 +105,9 @@ pub fn halves_back(
     requires { ⌜ largest-level opening (length (now chances)) < shape .width ⌝ }
     requires { ⌜ PlanTerms (now severity) (now chances) ⌝ }
     ensures lower { λ _.
-        ⌜ TakenBack down (now (severity .entry)) shape opening (now (chances .entry)) (take (rows-size shape) (now (halves .entry))) (take (rows-size shape) (now (halves .exit))) ⌝ }
+        ⌜ TakenBack Down (now (severity .entry)) shape opening (now (chances .entry)) (take (rows-size shape) (now (halves .entry))) (take (rows-size shape) (now (halves .exit))) ⌝ }
     ensures upper { λ _.
-        ⌜ TakenBack up (now (severity .entry)) shape opening (now (chances .entry)) (drop (rows-size shape) (now (halves .entry))) (drop (rows-size shape) (now (halves .exit))) ⌝ }
+        ⌜ TakenBack Up (now (severity .entry)) shape opening (now (chances .entry)) (drop (rows-size shape) (now (halves .entry))) (drop (rows-size shape) (now (halves .exit))) ⌝ }
 {
     let dense = gapless_sizes(severity);
     let filled = filled_above(severity, dense);

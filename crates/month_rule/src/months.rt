@@ -2,17 +2,17 @@
 ghost use mathlib.Core.Path.{_≡_};
 ghost use Prim.Native.Nat.{ℕ, _+_, _-_, _<_, _≤_};
 ghost use lib.ListN.{length};
-ghost use Rattle.model.specs.Scale.{S};
 ghost use Rattle.model.specs.Levels.{gain, largest-level};
 ghost use Rattle.model.specs.MonthRule.{kept, month, month-back};
 ghost use Rattle.claims.specs.Values.{Parts};
 ghost use Rattle.claims.specs.Listing.{Listing};
-ghost use Rattle.month_rule.specs.Rows.{at, MonthTerms, PlanTerms, round-by};
+ghost use Rattle.month_rule.specs.Rows.{at, MonthTerms, PlanTerms};
 ghost use Rattle.month_rule.specs.Shapes.{row-with, values-in, RowsIn, TopIn, rule-by, allowed-places, TakenBack};
 use crate::rows::Shape;
 use crate::rows::all_rows_back;
 use crate::rows::forbid_rows;
 use model::GAIN;
+use model::Rounding;
 
 // One month: what lies at forbidden levels counts as 0, then every row goes back.
 pub fn month_back(
@@ -23,22 +23,22 @@ pub fn month_back(
     sizes: &[usize],
     dense: usize,
     chance: u32,
-    bias: u64,
+    round: Rounding,
 )
     requires { ⌜ RowsIn shape (now rows) ⌝ }
     requires { ⌜ TopIn shape top ⌝ }
-    requires { ⌜ MonthTerms (now severity) (now sizes) dense chance bias ⌝ }
+    requires { ⌜ MonthTerms (now severity) (now sizes) dense chance ⌝ }
     ensures back { λ _.
         ⌜ ((k : ℕ) → k < shape .rows → (s : ℕ) → s + gain ≤ top →
         values-in shape (top - gain) (now (rows .exit)) k s
-        ≡ month-back (month (round-by bias) (now (severity .entry))) (rule-by shape) chance (values-in shape top (now (rows .entry))) k s) ⌝ }
+        ≡ month-back (month round (now (severity .entry))) (rule-by shape) chance (values-in shape top (now (rows .entry))) k s) ⌝ }
     ensures beyond { λ _.
         ⌜ ((k : ℕ) → k < shape .rows → (i : ℕ) → top < i + gain → i < shape .width →
         at (row-with shape (now (rows .exit)) k) i ≡ kept (allowed-places shape top) (at (row-with shape (now (rows .entry)) k)) i) ⌝ }
     ensures parts { λ _. ⌜ Parts (now (rows .exit)) ⌝ }
 {
     forbid_rows(rows, shape, top);
-    all_rows_back(rows, shape, top, severity, sizes, dense, chance, bias);
+    all_rows_back(rows, shape, top, severity, sizes, dense, chance, round);
 }
 
 // All months, the last one first: from the largest level at place 0 to the opening there.
@@ -50,13 +50,13 @@ pub fn all_months_back(
     severity: &[u32],
     sizes: &[usize],
     dense: usize,
-    bias: u64,
+    round: Rounding,
 )
     requires { ⌜ RowsIn shape (now rows) ⌝ }
-    requires { ⌜ (largest-level opening (length (now chances)) < shape .width) × (bias < S) ⌝ }
+    requires { ⌜ largest-level opening (length (now chances)) < shape .width ⌝ }
     requires { ⌜ PlanTerms (now severity) (now chances) ⌝ }
     requires { ⌜ Listing (now severity) (now sizes) dense ⌝ }
-    ensures values { λ _. ⌜ TakenBack (round-by bias) (now (severity .entry)) shape opening (now (chances .entry)) (now (rows .entry)) (now (rows .exit)) ⌝ }
+    ensures values { λ _. ⌜ TakenBack round (now (severity .entry)) shape opening (now (chances .entry)) (now (rows .entry)) (now (rows .exit)) ⌝ }
     ensures parts { λ _. ⌜ Parts (now (rows .exit)) ⌝ }
 {
     if chances.len() < 1 {
@@ -71,7 +71,16 @@ pub fn all_months_back(
         severity,
         sizes,
         dense,
-        bias,
+        round,
     );
-    month_back(rows, shape, after, severity, sizes, dense, chances[0], bias);
+    month_back(
+        rows,
+        shape,
+        after,
+        severity,
+        sizes,
+        dense,
+        chances[0],
+        round,
+    );
 }

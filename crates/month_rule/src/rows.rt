@@ -6,12 +6,13 @@ ghost use lib.ListN.{length, drop, replicate};
 ghost use Rattle.model.specs.Levels.{gain};
 ghost use Rattle.model.specs.MonthRule.{month, kept, claimed-row};
 ghost use Rattle.claims.specs.Values.{from-top, Parts};
-ghost use Rattle.month_rule.specs.Rows.{at, MonthTerms, Replaced, round-by, between, own-sizes, after-claim-by};
+ghost use Rattle.month_rule.specs.Rows.{at, MonthTerms, Replaced, between, own-sizes, after-claim-by};
 ghost use Rattle.month_rule.specs.Shapes.{row-with, values-in, RowsIn, TopIn, allowed-places};
 use crate::value::month_value;
 use claims::sizes::first_within;
 use claims::sum::claim_sum;
 use model::GAIN;
+use model::Rounding;
 use numbers::difference;
 use numbers::lesser;
 
@@ -48,14 +49,14 @@ pub fn row_back(
     sizes: &[usize],
     dense: usize,
     chance: u32,
-    bias: u64,
+    round: Rounding,
 )
     requires { ⌜ (quiet ≤ claimed) × (live + gain ≡ top + 1) × (claimed + top ≤ length (now rows)) ⌝ }
     requires { ⌜ Parts (now rows) ⌝ }
-    requires { ⌜ MonthTerms (now severity) (now sizes) dense chance bias ⌝ }
+    requires { ⌜ MonthTerms (now severity) (now sizes) dense chance ⌝ }
     ensures rewritten { λ _.
         ⌜ Replaced quiet live
-        (λ i. month (round-by bias) (now (severity .entry)) chance (from-top top (drop quiet (now (rows .entry)))) (from-top top (drop claimed (now (rows .entry)))) (live - 1 - i))
+        (λ i. month round (now (severity .entry)) chance (from-top top (drop quiet (now (rows .entry)))) (from-top top (drop claimed (now (rows .entry)))) (live - 1 - i))
         (now (rows .entry)) (now (rows .exit)) ⌝ }
     ensures parts { λ _. ⌜ Parts (now (rows .exit)) ⌝ }
 {
@@ -68,7 +69,13 @@ pub fn row_back(
         first = first_within(sizes, first, most);
         let claims = claim_sum(severity, &sizes[first..], dense, &rows[next..end]);
         let place = quiet + i;
-        rows[place] = month_value(chance, rows[place], claims.sum, bias);
+        rows[place] = month_value(
+            chance,
+            rows[place],
+            claims.quotient,
+            claims.remainder,
+            round,
+        );
         i += 1;
     }
 }
@@ -121,15 +128,15 @@ pub fn all_rows_back(
     sizes: &[usize],
     dense: usize,
     chance: u32,
-    bias: u64,
+    round: Rounding,
 )
     requires { ⌜ RowsIn shape (now rows) ⌝ }
     requires { ⌜ TopIn shape top ⌝ }
-    requires { ⌜ MonthTerms (now severity) (now sizes) dense chance bias ⌝ }
+    requires { ⌜ MonthTerms (now severity) (now sizes) dense chance ⌝ }
     ensures rewritten { λ _.
         ⌜ ((k : ℕ) → k < shape .rows → (s : ℕ) → s + gain ≤ top →
         values-in shape (top - gain) (now (rows .exit)) k s
-        ≡ month (round-by bias) (now (severity .entry)) chance (values-in shape top (now (rows .entry)) k)
+        ≡ month round (now (severity .entry)) chance (values-in shape top (now (rows .entry)) k)
         (claimed-row (values-in shape top (now (rows .entry))) (after-claim-by (shape .tallied) k)) s) ⌝ }
     ensures beyond { λ _.
         ⌜ ((k : ℕ) → k < shape .rows → (i : ℕ) → top < i + gain → i < shape .width →
@@ -154,7 +161,7 @@ pub fn all_rows_back(
             sizes,
             dense,
             chance,
-            bias,
+            round,
         );
         j += 1;
     }
@@ -170,6 +177,6 @@ pub fn all_rows_back(
         sizes,
         dense,
         chance,
-        bias,
+        round,
     );
 }

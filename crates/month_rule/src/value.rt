@@ -1,38 +1,43 @@
 // One value of the month rule, in plain machine arithmetic.
 ghost use mathlib.Core.Path.{_≡_};
 ghost use Prim.Native.Nat.{_+_, _*_, _-_, _<_, _≤_};
-ghost use Rattle.model.specs.Scale.{S};
-ghost use Rattle.month_rule.specs.Rows.{round-by};
-
-// The scale S, of which chances, weights and bounds are parts.
-pub const SCALE: u64 = model::SCALE as u64;
-
-// The bias that a rounding adds before a division by the scale.
-pub const ROUND_DOWN: u64 = 0;
-
-pub const ROUND_UP: u64 = SCALE - 1;
+ghost use Rattle.model.specs.Scale.{S, quotient};
+use model::Rounding;
+use model::WIDE_SCALE;
 
 // A quotient by the scale.
-pub fn divide(x: u64, bias: u64) -> u32
-    requires { ⌜ (x ≤ S * S) × (bias < S) ⌝ }
-    ensures { λ r. ⌜ r ≡ round-by bias x ⌝ }
+pub fn divide(x: u64, round: Rounding) -> u32
+    requires { ⌜ x ≤ S * S ⌝ }
+    ensures { λ r. ⌜ r ≡ quotient round x S ⌝ }
 {
-    ((x + bias) / SCALE) as u32
+    match round {
+        Rounding::Down => (x / WIDE_SCALE) as u32,
+        Rounding::Up => ((x + (WIDE_SCALE - 1)) / WIDE_SCALE) as u32,
+    }
 }
 
 // One value with this chance and another otherwise.
-pub fn mixture(chance: u32, otherwise: u32, then: u32, bias: u64) -> u32
-    requires { ⌜ (chance ≤ S) × (otherwise ≤ S) × (then ≤ S) × (bias < S) ⌝ }
-    ensures { λ r. ⌜ r ≡ round-by bias ((S - chance) * otherwise + chance * then) ⌝ }
+pub fn mixture(chance: u32, otherwise: u32, then: u32, round: Rounding) -> u32
+    requires { ⌜ (chance ≤ S) × (otherwise ≤ S) × (then ≤ S) ⌝ }
+    ensures { λ r. ⌜ r ≡ quotient round ((S - chance) * otherwise + chance * then) S ⌝ }
 {
     let p = chance as u64;
-    divide((SCALE - p) * (otherwise as u64) + p * (then as u64), bias)
+    divide(
+        (WIDE_SCALE - p) * (otherwise as u64) + p * (then as u64),
+        round,
+    )
 }
 
-// The value before a month with this chance, from the value with no claim and the claim sum.
-pub fn month_value(chance: u32, quiet: u32, sum: u64, bias: u64) -> u32
-    requires { ⌜ (chance ≤ S) × (quiet ≤ S) × (sum ≤ S * S) × (bias < S) ⌝ }
-    ensures { λ r. ⌜ r ≡ round-by bias ((S - chance) * quiet + chance * round-by bias sum) ⌝ }
+// The value before a month with this chance, from the value with no claim and the claim sum's quotient by the scale and what is left over: rounded once,
+// although each division here is by the scale alone.
+pub fn month_value(chance: u32, quiet: u32, claimed: u64, left: u64, round: Rounding) -> u32
+    requires { ⌜ (chance ≤ S) × (quiet ≤ S) × (claimed * S + left ≤ S * S) × (left < S) ⌝ }
+    ensures { λ r. ⌜ r ≡ quotient round ((S - chance) * S * quiet + chance * (claimed * S + left)) (S * S) ⌝ }
 {
-    mixture(chance, quiet, divide(sum, bias), bias)
+    let p = chance as u64;
+    let carried = divide(p * left, round) as u64;
+    divide(
+        (WIDE_SCALE - p) * (quiet as u64) + p * claimed + carried,
+        round,
+    )
 }

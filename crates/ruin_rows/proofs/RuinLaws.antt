@@ -7,13 +7,14 @@ use native.Mathlib.Numerals.{add-one}
 use native.Mathlib.Omega.{arith}
 use lib.ListN.{length, getD, take, drop, replicate, length-replicate, replicate-append-replicate, drop-of-length-le}
 use lib.Seq.{drop-cons, take-at, drop-at}
-use Rattle.model.specs.Scale.{S}
+use Rattle.model.specs.declared.Rounding.{Rounding}
+use Rattle.model.specs.Scale.{S, quotient}
 use Rattle.model.specs.Sums.{total}
 use Rattle.model.specs.Levels.{gain}
 use Rattle.model.specs.MonthRule.{Row, ruin-weight, ruin-row}
 use Rattle.model.proofs.SumLaws.{total-drop-le}
-use Rattle.month_rule.specs.Rows.{round-by}
-use Rattle.month_rule.proofs.ValueLaws.{round-by-le}
+use Rattle.model.proofs.Quotients.{quotient-le}
+use Rattle.model.proofs.Month.{scale-positive}
 use Rattle.ruin_rows.specs.Terms.{RuinTerms}
 
 -- the weight so far and the sizes that are left are the whole
@@ -40,8 +41,8 @@ weighing-end F tail level weight x l h =
     omega arith
 
 -- the row's values by their places, from the level `top` at place 0
-abbrev pub ruin-places : ℕ → List ℕ → ℕ → ℕ → ℕ → Row
-ruin-places bias F tail chance top i = ruin-row (round-by bias) F tail chance (top - i)
+abbrev pub ruin-places : Rounding → List ℕ → ℕ → ℕ → ℕ → Row
+ruin-places round F tail chance top i = ruin-row round F tail chance (top - i)
 
 -- one value: nothing passes S × S, and the quotient is that of the row
 pub product-fits : (F : List ℕ) (tail chance level weight : ℕ) → RuinTerms F tail chance → weight ≡ ruin-weight F tail level → chance * weight ≤ S * S
@@ -50,15 +51,16 @@ product-fits F tail chance level weight terms e =
     mul-le-mul (terms .chance-fits) (omega (arith, terms .weights-fit, total-drop-le (level - 1) F))
 
 pub ruin-value :
-    (bias : ℕ) (F : List ℕ) (tail chance top i weight value : ℕ) → weight ≡ ruin-weight F tail (top - i + gain) → value ≡ round-by bias (chance * weight) →
-    value ≡ ruin-places bias F tail chance top i
+    (round : Rounding) (F : List ℕ) (tail chance top i weight value : ℕ) → weight ≡ ruin-weight F tail (top - i + gain) → value ≡ quotient round (chance * weight) S →
+    value ≡ ruin-places round F tail chance top i
 unfolding ruin-row
-ruin-value bias F tail chance top i weight value e v = v ∙ ap (λ (w : ℕ). round-by bias (chance * w)) e
+ruin-value round F tail chance top i weight value e v = v ∙ ap (λ (w : ℕ). quotient round (chance * w) S) e
 
 pub value-fits :
-    (bias : ℕ) (F : List ℕ) (tail chance level weight value : ℕ) → bias < S → RuinTerms F tail chance → weight ≡ ruin-weight F tail level →
-    value ≡ round-by bias (chance * weight) → value ≤ S
-value-fits bias F tail chance level weight value b terms e v = rw v (round-by-le bias (chance * weight) b (product-fits F tail chance level weight terms e))
+    (round : Rounding) (F : List ℕ) (tail chance level weight value : ℕ) → RuinTerms F tail chance → weight ≡ ruin-weight F tail level →
+    value ≡ quotient round (chance * weight) S → value ≤ S
+value-fits round F tail chance level weight value terms e v =
+    rw v (quotient-le round (chance * weight) S S scale-positive (product-fits F tail chance level weight terms e))
 
 -- each half of a workspace that is all 0
 module _ (xs : List ℕ) (n half : ℕ) (zeros : xs ≡ replicate n 0) (whole : n ≡ 2 * half) where

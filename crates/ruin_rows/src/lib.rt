@@ -2,16 +2,16 @@
 ghost use mathlib.Core.Path.{_≡_};
 ghost use Prim.Native.Nat.{_+_, _*_, _-_, _<_, _≤_};
 ghost use lib.ListN.{length, take, drop, replicate};
-ghost use Rattle.model.specs.Scale.{S, down, up};
+ghost use Rattle.model.specs.Scale.{S};
+ghost use Rattle.model.specs.declared.Rounding.the-variants.{Down, Up};
 ghost use Rattle.model.specs.Sums.{total};
 ghost use Rattle.model.specs.MonthRule.{ruin-weight, ruin-row};
 ghost use Rattle.claims.specs.Values.{Parts};
-ghost use Rattle.month_rule.specs.Rows.{Replaced, round-by};
+ghost use Rattle.month_rule.specs.Rows.{Replaced};
 ghost use Rattle.ruin_rows.specs.Terms.{RuinTerms};
 use model::GAIN;
+use model::Rounding;
 use month_rule::rows::fill;
-use month_rule::value::ROUND_DOWN;
-use month_rule::value::ROUND_UP;
 use month_rule::value::divide;
 use numbers::difference;
 use numbers::wide;
@@ -31,17 +31,17 @@ fn ruin_weight(severity: &[u32], tail: u32, level: usize) -> u64
 }
 
 // The row before a month with this chance, from the level `top` at place 0 down to level 0.
-fn ruin_row(row: &mut [u32], top: usize, severity: &[u32], tail: u32, chance: u32, bias: u64)
-    requires { ⌜ (top < length (now row)) × Parts (now row) × (bias < S) ⌝ }
+fn ruin_row(row: &mut [u32], top: usize, severity: &[u32], tail: u32, chance: u32, round: Rounding)
+    requires { ⌜ (top < length (now row)) × Parts (now row) ⌝ }
     requires { ⌜ RuinTerms (now severity) tail chance ⌝ }
     ensures rewritten { λ _.
-        ⌜ Replaced 0 (top + 1) (λ i. ruin-row (round-by bias) (now (severity .entry)) tail chance (top - i)) (now (row .entry)) (now (row .exit)) ⌝ }
+        ⌜ Replaced 0 (top + 1) (λ i. ruin-row round (now (severity .entry)) tail chance (top - i)) (now (row .entry)) (now (row .exit)) ⌝ }
     ensures parts { λ _. ⌜ Parts (now (row .exit)) ⌝ }
 {
     let mut i = 0;
     while i <= top {
         let weight = ruin_weight(severity, tail, top - i + GAIN);
-        row[i] = divide(wide(chance) * weight, bias);
+        row[i] = divide(wide(chance) * weight, round);
         i += 1;
     }
 }
@@ -58,12 +58,26 @@ pub fn ruin_halves(
     requires { ⌜ (length (now halves) ≡ 2 * half) × (top < half) ⌝ }
     requires { ⌜ RuinTerms (now severity) tail chance ⌝ }
     ensures lower { λ _.
-        ⌜ Replaced 0 (top + 1) (λ i. ruin-row down (now (severity .entry)) tail chance (top - i)) (replicate half 0) (take half (now (halves .exit))) ⌝ }
+        ⌜ Replaced 0 (top + 1) (λ i. ruin-row Down (now (severity .entry)) tail chance (top - i)) (replicate half 0) (take half (now (halves .exit))) ⌝ }
     ensures upper { λ _.
-        ⌜ Replaced 0 (top + 1) (λ i. ruin-row up (now (severity .entry)) tail chance (top - i)) (replicate half 0) (drop half (now (halves .exit))) ⌝ }
+        ⌜ Replaced 0 (top + 1) (λ i. ruin-row Up (now (severity .entry)) tail chance (top - i)) (replicate half 0) (drop half (now (halves .exit))) ⌝ }
     ensures parts { λ _. ⌜ Parts (now (halves .exit)) ⌝ }
 {
     fill(halves, 0);
-    ruin_row(&mut halves[..half], top, severity, tail, chance, ROUND_DOWN);
-    ruin_row(&mut halves[half..], top, severity, tail, chance, ROUND_UP);
+    ruin_row(
+        &mut halves[..half],
+        top,
+        severity,
+        tail,
+        chance,
+        Rounding::Down,
+    );
+    ruin_row(
+        &mut halves[half..],
+        top,
+        severity,
+        tail,
+        chance,
+        Rounding::Up,
+    );
 }

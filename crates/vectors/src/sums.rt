@@ -16,7 +16,7 @@ pub fn claims(head: Head, count: usize, row: &[u32]) {
     if refusal == 0 {
         add(head, count, row);
     } else {
-        line(refusal, 0, 0);
+        line(refusal, 0, 0, 0);
     }
 }
 
@@ -46,12 +46,13 @@ fn sum(severity: &[u32], sizes: &[usize], dense: usize, after: &[u32])
     let most = lesser(after.len(), severity.len());
     let first = first_within(sizes, 0, most);
     let claims = claim_sum(severity, &sizes[first..], dense, after);
-    line(0, claims.sum, claims.products);
+    line(0, claims.quotient, claims.remainder, claims.products);
 }
 
-fn line(refusal: u32, sum: u64, products: usize) {
+fn line(refusal: u32, quotient: u64, remainder: u64, products: usize) {
     text::first(refusal as u64);
-    text::next(sum);
+    text::next(quotient);
+    text::next(remainder);
     text::next(products as u64);
     text::end();
 }

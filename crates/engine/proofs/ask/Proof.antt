@@ -7,7 +7,8 @@ use native.Mathlib.Omega.{arith}
 use borrow.Author.Needs.{needs}
 use borrow.Author.Tests.{not-true, not-false}
 use lib.ListN.{length}
-use Rattle.model.specs.Scale.{Rounding, down, up}
+use Rattle.model.specs.declared.Rounding.{Rounding}
+use Rattle.model.specs.declared.Rounding.the-variants.{Down, Up}
 use Rattle.model.specs.Plan.{plan-of}
 use Rattle.model.specs.Levels.{row-levels}
 use Rattle.model.specs.MonthRule.{opening-allowed}
@@ -100,7 +101,7 @@ returns-2 c =
     let else1 = unrefused (forbidden at-needed) in
     let a = of-test (forbidden at-needed) .args in
     answered-out (call .result) _ (needed .result) (workspace-needed (a .ask)) (a .workspace .now) _ (none-refused else1) (call .ensures .0)
-    (no-bound (at-needed .before) down) (no-bound (at-needed .before) up) (call .ensures .1) (needed .ensures)
+    (no-bound (at-needed .before) Down) (no-bound (at-needed .before) Up) (call .ensures .1) (needed .ensures)
     (enclosure (a .ask .head) (a .row .now) (known else1 .accepted) (a .ask .question))
 
 row-levels-requires : tie.Need-row-levels-requires
@@ -177,7 +178,7 @@ returns-3 c =
     let else1 = answered at-shape in
     let a = of-shape at-shape .args in
     answered-out (call .result) _ (2 * rows-size (at-shape .shape-of .result)) (workspace-needed (a .ask)) (a .workspace .now) _ (none-refused else1)
-    (call .ensures .0) (bound-of at-shape down) (bound-of at-shape up) (call .ensures .1) (needed-is at-shape)
+    (call .ensures .0) (bound-of at-shape Down) (bound-of at-shape Up) (call .ensures .1) (needed-is at-shape)
     (enclosure (a .ask .head) (a .row .now) (known else1 .accepted) (a .ask .question))
 
 pub ask-spec : {M : Type 1} → statement M

@@ -5,7 +5,8 @@ use native.Mathlib.Omega.{arith}
 use borrow.Author.Needs.{needs}
 use lib.ListN.{length, getD}
 use Rattle.model.specs.declared.Question.the-variants.{Survive}
-use Rattle.model.specs.Scale.{Rounding, down, up}
+use Rattle.model.specs.declared.Rounding.{Rounding}
+use Rattle.model.specs.declared.Rounding.the-variants.{Down, Up}
 use Rattle.model.specs.Plan.{plan-of}
 use Rattle.model.specs.Levels.{row-levels}
 use Rattle.model.specs.Bounds.{ruin-bound}
@@ -132,7 +133,7 @@ returns-2 c =
     let h = a .head in
     let row = a .row .now in
     answered-out (call .result) _ (2 * rows-size (at-shape .shape-of .result)) (ruin-workspace h) (a .workspace .now) _
-    (sym (else1 .before .ruin-refusal .ensures) ∙ else1 .if1 .left) (call .ensures .0) (bound-of at-shape down) (bound-of at-shape up) (call .ensures .1)
+    (sym (else1 .before .ruin-refusal .ensures) ∙ else1 .if1 .left) (call .ensures .0) (bound-of at-shape Down) (bound-of at-shape Up) (call .ensures .1)
     (needed-is at-shape)
     (ruin-enclosure h row (known else1 .accepted) (a .month) (inside else1 .0) (rw (horizon-is h row (fits else1 .row-is)) (inside else1 .1)))
 

@@ -5,12 +5,9 @@ use Prim.Native.Nat.{ℕ, _*_, _-_, _<_, zero-le}
 use native.Mathlib.Omega.{arith}
 use borrow.Rule.Slice.PartMut.{midOf}
 use lib.ListN.{length, take, drop, replicate, length-take, length-replicate}
-use Rattle.model.specs.Scale.{S}
 use Rattle.claims.specs.Values.{Parts}
-use Rattle.month_rule.proofs.ValueLaws.{down-by, up-by}
 use Rattle.month_rule.proofs.HalfLaws.{second-lent, first-half, second-half, parts-both, parts-replicate}
 use Rattle.ruin_rows.proofs.RuinLaws.{zeros-first, zeros-second}
-use borrow.Author.Needs.{needs}
 use borrow.Author.Needs.{needs}
 use Rattle.ruin_rows.proofs.ruin_halves.Statement.{statement}
 use Rattle.ruin_rows.proofs.ruin_halves.Tie as tie
@@ -56,11 +53,10 @@ needed : (s : tie.Start) (part : List ℕ) → part ≡ replicate (s .args .half
 needed s part e = rw e (rw length-replicate (s .pre .0 .1), parts-replicate (s .args .half) 0 zero-le)
 
 ruin-row-requires : tie.Need-ruin-row-requires
-unfolding S
 ruin-row-requires c κs =
     let s = of-fill (filled c) in
     let zeros = needed s _ (first-zeros (filled c)) in
-    ((zeros .0, zeros .1, omega arith), s .pre .1)
+    (zeros, s .pre .1)
 
 -- the second half as it is lent
 second :
@@ -84,17 +80,15 @@ part-ruin-row-end : tie.Need-part-ruin-row-end
 part-ruin-row-end c = search needs
 
 ruin-row-requires-2 : tie.Need-ruin-row-requires-2
-unfolding S
 ruin-row-requires-2 c κs =
     let s = of-fill (of-lower (lower c)) in
     let zeros = needed s _ (second (lower c) ∙ second-zeros (of-lower (lower c))) in
-    ((zeros .0, zeros .1, omega arith), s .pre .1)
+    (zeros, s .pre .1)
 
 same-length : tie.Need-same-length
 same-length c = search needs
 
 returns : tie.Need-returns
-unfolding S
 returns c =
     let at-upper = c .before .before in
     let last = at-upper .ruin-row2 in
@@ -103,9 +97,9 @@ returns c =
     let at-fill = of-lower at-lower in
     let xs = at-fill .fill .last .0 in
     let half = of-fill at-fill .args .half in (
-      rw (down-by, first-half xs (first .last .0) (last .last .0) half (whole at-fill) (first .kept .0)) (rw (first-zeros at-fill) at (first .ensures .0)),
+      rw (first-half xs (first .last .0) (last .last .0) half (whole at-fill) (first .kept .0)) (rw (first-zeros at-fill) at (first .ensures .0)),
       (
-        rw (up-by, second-half xs (first .last .0) (last .last .0) half (whole at-fill) (first .kept .0))
+        rw (second-half xs (first .last .0) (last .last .0) half (whole at-fill) (first .kept .0))
             (rw (second at-lower, second-zeros at-fill) at (last .ensures .0)),
         parts-both xs (first .last .0) (last .last .0) half (whole at-fill) (first .kept .0) (first .ensures .1) (last .ensures .1),
       ),

@@ -12,10 +12,10 @@ use Rattle.ruin_rows.proofs.ruin_row.Statement.{statement}
 use Rattle.ruin_rows.proofs.ruin_row.Tie as tie
 
 abbrev Inv-loop : tie.InvT-loop
-Inv-loop row₀ top severity tail chance bias i₀ row i = (i ≤ top + 1) × Rewriting row₀ 0 (ruin-places bias severity tail chance top) row i
+Inv-loop row₀ top severity tail chance round i₀ row i = (i ≤ top + 1) × Rewriting row₀ 0 (ruin-places round severity tail chance top) row i
 
 abbrev μ-loop : tie.MeasureT-loop
-μ-loop row₀ top severity tail chance bias i₀ row i = top + 1 - i
+μ-loop row₀ top severity tail chance round i₀ row i = top + 1 - i
 
 loop-holds : tie.Need-loop-holds Inv-loop μ-loop
 loop-holds c =
@@ -53,7 +53,7 @@ unfolding S
 mul-divide c = omega (arith, fits c)
 
 divide-requires : tie.Need-divide-requires Inv-loop μ-loop
-divide-requires c κs = (fits c, start (at-loop (c .before)) .pre .0 .2)
+divide-requires c κs = fits c
 
 mul-row : tie.Need-mul-row Inv-loop μ-loop
 mul-row c = search needs
@@ -79,8 +79,8 @@ loop-again c =
       rw zero-add at
           (rewriting-turn (a .row .now) 0 _ (loop .row) (loop .i) (c .divide .result) (loop .inv .1)
           (omega (arith, loop .inv .1 .same-length, from .pre .0 .0, weighed c .before .loop-test .taken))
-          (ruin-value (a .bias) (a .severity .now) (a .tail) (a .chance) (a .top) (loop .i) (weight .result) (c .divide .result) (weight .ensures) value)
-          (value-fits (a .bias) (a .severity .now) (a .tail) (a .chance) _ (weight .result) (c .divide .result) (from .pre .0 .2) (from .pre .1) (weight .ensures) value)),
+          (ruin-value (a .round) (a .severity .now) (a .tail) (a .chance) (a .top) (loop .i) (weight .result) (c .divide .result) (weight .ensures) value)
+          (value-fits (a .round) (a .severity .now) (a .tail) (a .chance) _ (weight .result) (c .divide .result) (from .pre .1) (weight .ensures) value)),
     )
 
 same-length : tie.Need-same-length Inv-loop μ-loop

@@ -1,6 +1,6 @@
 -- `claim_sum` meets its contract: the listed sizes and those without a gap are all filled sizes in range.
 use mathlib.Core.Path.{_≡_, _∙_, ap, ap₂}
-use Prim.Native.Nat.{ℕ, _+_, _*_, _≤_, min}
+use Prim.Native.Nat.{ℕ, _+_, _*_, _/_, _%_, _≤_, min}
 use native.Mathlib.Omega.{arith}
 use lib.ListN.{length}
 use Rattle.model.specs.Scale.{S}
@@ -78,12 +78,14 @@ add-products : tie.Need-add-products
 add-products c = omega (arith, together (c .before .before .before .before) .1)
 
 returns : tie.Need-returns
+unfolding S
 returns c =
     let at-sums = c .before .before .before .before in
     let from = start (range (divided (listed at-sums))) in
     let a = from .args in
     let all = together at-sums in
-    (all .0 ∙ whole-sum (a .severity .now) (a .after .now), all .1)
+    let whole = all .0 ∙ whole-sum (a .severity .now) (a .after .now) in
+    (ap (λ (n : ℕ). n / S) whole, (ap (λ (n : ℕ). n % S) whole, all .1))
 
 pub claim-sum-spec : {M : Type 1} → statement M
 claim-sum-spec =

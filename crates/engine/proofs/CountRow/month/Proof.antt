@@ -1,10 +1,11 @@
 -- `CountRow::month` meets its contract: each row by `count_month`, at its rounding.
-use Prim.Native.Nat.{_-_}
+use mathlib.Core.Path.{_∙_, ap}
+use Prim.Native.Nat.{ℕ}
 use native.Mathlib.Omega.{arith}
-use Rattle.model.specs.Scale.{S, down, up}
+use Rattle.model.specs.declared.Rounding.the-variants.{Down, Up}
+use Rattle.model.specs.CountRow.{count-month, tabulate}
+use Rattle.month_rule.specs.Rows.{at}
 use Rattle.engine.specs.Counts.{rows-after}
-use Rattle.month_rule.proofs.ValueLaws.{down-by, up-by}
-use Rattle.engine.proofs.CountLaws.{count-after-is}
 use borrow.Author.Needs.{needs}
 use Rattle.engine.proofs.CountRow.month.Statement.{statement}
 use Rattle.engine.proofs.CountRow.month.Tie as tie
@@ -20,22 +21,20 @@ slice-aggregate-count-month : tie.Need-slice-aggregate-count-month
 slice-aggregate-count-month c = search needs
 
 count-month-requires : tie.Need-count-month-requires
-unfolding S
 count-month-requires c κs =
     let from = start c in
-    (omega (arith, from .pre .0 .lower-length), from .pre .0 .lower-parts, from .pre .1, omega arith)
+    (omega (arith, from .pre .0 .lower-length), from .pre .0 .lower-parts, from .pre .1)
 
 slice-aggregate-count-month-2 : tie.Need-slice-aggregate-count-month-2
 slice-aggregate-count-month-2 c = search needs
 
 count-month-requires-2 : tie.Need-count-month-requires-2
-unfolding S
 count-month-requires-2 c κs =
     let from = start (lower c .before) in
-    (omega (arith, from .pre .0 .upper-length), from .pre .0 .upper-parts, from .pre .1, omega arith)
+    (omega (arith, from .pre .0 .upper-length), from .pre .0 .upper-parts, from .pre .1)
 
 returns : tie.Need-returns
-unfolding S rows-after
+unfolding rows-after
 returns c =
     let at-upper = c .before in
     let high = at-upper .count-month2 in
@@ -44,8 +43,8 @@ returns c =
     let from = start (at-lower .before) in
     let P = from .args .chance in
     let row = from .args .self in
-    let lows = count-after-is 0 down down-by P (row .lower) (low .last .0) (from .pre .0 .lower-length) (low .ensures) in
-    let highs = count-after-is (S - 1) up up-by P (row .upper) (high .last .0) (from .pre .0 .upper-length) (high .ensures) in
+    let lows = low .ensures ∙ ap (λ (n : ℕ). tabulate n (count-month Down P (at (row .lower)))) (from .pre .0 .lower-length) in
+    let highs = high .ensures ∙ ap (λ (n : ℕ). tabulate n (count-month Up P (at (row .upper)))) (from .pre .0 .upper-length) in
     λ i. record { lower = lows i; upper = highs i }
 
 pub month-spec : {M : Type 1} → statement M

@@ -6,7 +6,7 @@ use native.Mathlib.Omega.{arith}
 use borrow.Author.Needs.{needs}
 use lib.ListN.{drop, replicate, length-take}
 use lib.Seq.{length-take-le}
-use Rattle.model.specs.Scale.{down, up}
+use Rattle.model.specs.declared.Rounding.the-variants.{Down, Up}
 use Rattle.model.proofs.Facts.{Facts, facts}
 use Rattle.month_rule.specs.Shapes.{rows-size}
 use Rattle.engine.proofs.AnswerLaws.{answer-worked, terms-lent, levels-fit, last-lent, value-lent}
@@ -86,8 +86,8 @@ returns c =
     let w = s .pre .1 .0 in
     let count = length-take-le (2 * rows-size (a .shape)) (a .workspace .now) (w .enough) in (
       answer-worked (call .result .lower) (call .result .upper) _ _
-          (value-lent down (a .head) (a .row .now) (a .months) (a .shape) (a .last) (call .result .lower) (w .within) (call .ensures .0))
-          (value-lent up (a .head) (a .row .now) (a .months) (a .shape) (a .last) (call .result .upper) (w .within) (call .ensures .1 .0)),
+          (value-lent Down (a .head) (a .row .now) (a .months) (a .shape) (a .last) (call .result .lower) (w .within) (call .ensures .0))
+          (value-lent Up (a .head) (a .row .now) (a .months) (a .shape) (a .last) (call .result .upper) (w .within) (call .ensures .1 .0)),
       ap (λ front. front ++ drop (2 * rows-size (a .shape)) (a .workspace .now)) (call .ensures .1 .1 ∙ ap (λ n. replicate n 0) count),
     )
 

@@ -6,7 +6,7 @@ use native.Mathlib.Omega.{arith}
 use lib.ListN.{length, replicate}
 use lib.Seq.{getD-drop, getD-take}
 use borrow.Author.Needs.{needs}
-use Rattle.model.specs.Scale.{down, up}
+use Rattle.model.specs.declared.Rounding.the-variants.{Down, Up}
 use Rattle.model.specs.Levels.{gain, largest-level}
 use Rattle.month_rule.specs.Shapes.{rows-size, HalvesIn}
 use Rattle.month_rule.proofs.ManyRows.{row-fits}
@@ -93,8 +93,8 @@ returns c =
     let a = from .args in
     let half = rows-size (a .shape) in
     let fits = some-place at-walk in
-    let lower = taken-value down (a .severity .now) (a .shape) (a .opening) (a .chances .now) _ _ (back .ensures .0) (some from) (last-rows (a .last) down (a .severity .now) (a .tail)) (rw (top-is from) at (last .ensures .0 .each)) in
-    let upper = taken-value up (a .severity .now) (a .shape) (a .opening) (a .chances .now) _ _ (back .ensures .1) (some from) (last-rows (a .last) up (a .severity .now) (a .tail)) (rw (top-is from) at (last .ensures .1 .0 .each)) in (
+    let lower = taken-value Down (a .severity .now) (a .shape) (a .opening) (a .chances .now) _ _ (back .ensures .0) (some from) (last-rows (a .last) Down (a .severity .now) (a .tail)) (rw (top-is from) at (last .ensures .0 .each)) in
+    let upper = taken-value Up (a .severity .now) (a .shape) (a .opening) (a .chances .now) _ _ (back .ensures .1) (some from) (last-rows (a .last) Up (a .severity .now) (a .tail)) (rw (top-is from) at (last .ensures .1 .0 .each)) in (
       taken .ensures .0 .0 ∙ sym (getD-take half (back .last .0) 0 0 (omega arith)) ∙ lower,
       (
         taken .ensures .0 .1 ∙ sym (rw add-zero at (getD-drop half (back .last .0) 0 0)) ∙ upper,

@@ -3,7 +3,7 @@ use mathlib.Core.Path.{_≡_, ap, _∙_}
 use Prim.Native.Nat.{_*_}
 use borrow.Author.Needs.{needs}
 use lib.ListN.{take, drop}
-use Rattle.model.specs.Scale.{down, up}
+use Rattle.model.specs.declared.Rounding.the-variants.{Down, Up}
 use Rattle.month_rule.specs.Shapes.{rows-size}
 use Rattle.ruin_rows.specs.Terms.{RuinTerms}
 use Rattle.engine.proofs.AnswerLaws.{some-row, placed-in, ruin-terms, one-row, ruin-in}
@@ -51,9 +51,9 @@ returns c =
     let s = placed (c .before .before .before) in
     let a = s .args in
     let told = c .before .before .before .before .enum-told .given .1 in (
-      placed-in (a .last) told down (a .severity .now) (a .tail) (a .shape) (a .top) _ (s .pre .0 .1) (call .ensures .0),
+      placed-in (a .last) told Down (a .severity .now) (a .tail) (a .shape) (a .top) _ (s .pre .0 .1) (call .ensures .0),
       (
-        placed-in (a .last) told up (a .severity .now) (a .tail) (a .shape) (a .top) _ (s .pre .0 .1) (call .ensures .1 .0),
+        placed-in (a .last) told Up (a .severity .now) (a .tail) (a .shape) (a .top) _ (s .pre .0 .1) (call .ensures .1 .0),
         call .ensures .1 .1,
       ),
     )
@@ -67,10 +67,10 @@ returns-2 c =
     let at-arg = c .before .before .before in
     let a = ruin at-arg .args in
     let told = at-arg .before .before .last .given in (
-      ruin-in (a .last) (told .0 .0) (told .1) down (a .severity .now) (a .tail) (a .shape) (a .top) _ _ (terms at-arg .0)
+      ruin-in (a .last) (told .0 .0) (told .1) Down (a .severity .now) (a .tail) (a .shape) (a .top) _ _ (terms at-arg .0)
           (ap (λ n. take n (call .last .0)) (half at-arg)) (call .ensures .0),
       (
-        ruin-in (a .last) (told .0 .0) (told .1) up (a .severity .now) (a .tail) (a .shape) (a .top) _ _ (terms at-arg .0)
+        ruin-in (a .last) (told .0 .0) (told .1) Up (a .severity .now) (a .tail) (a .shape) (a .top) _ _ (terms at-arg .0)
             (ap (λ n. drop n (call .last .0)) (half at-arg)) (call .ensures .1 .0),
         call .ensures .1 .1,
       ),

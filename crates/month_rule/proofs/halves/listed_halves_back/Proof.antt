@@ -6,9 +6,7 @@ use native.Mathlib.Omega.{arith}
 use borrow.Rule.Slice.PartMut.{midOf}
 use lib.ListN.{length, drop, length-take}
 use borrow.Author.Needs.{needs}
-use Rattle.model.specs.Scale.{S}
 use Rattle.month_rule.specs.Shapes.{rows-size}
-use Rattle.month_rule.proofs.ValueLaws.{down-by, up-by}
 use Rattle.month_rule.proofs.HalfLaws.{lower-rows, upper-rows, second-lent, first-half, second-half}
 use Rattle.month_rule.proofs.halves.listed_halves_back.Statement.{statement}
 use Rattle.month_rule.proofs.halves.listed_halves_back.Tie as tie
@@ -30,10 +28,9 @@ abbrev lower : tie.After-all-months-back-arg2 → tie.After-all-months-back
 lower c = c .before .before .before
 
 all-months-back-requires : tie.Need-all-months-back-requires
-unfolding S
 all-months-back-requires c κs =
     let from = start c in
-    (lower-rows (from .args .shape) (from .args .halves .now) (from .pre .0), ((from .pre .1 .0, omega arith), from .pre .1 .1))
+    (lower-rows (from .args .shape) (from .args .halves .now) (from .pre .0), from .pre .1)
 
 mul-all-months-back : tie.Need-mul-all-months-back
 mul-all-months-back c = search needs
@@ -59,16 +56,14 @@ second c =
     second-lent (from .args .halves .now) (c .all-months-back .last .0) (c .all-months-back .last .0) (rows-size (from .args .shape)) (from .pre .0 .size) (c .all-months-back .kept .0)
 
 all-months-back-requires-2 : tie.Need-all-months-back-requires-2
-unfolding S
 all-months-back-requires-2 c κs =
     let from = start (lower c .before) in
-    (rw (second (lower c)) (upper-rows (from .args .shape) (from .args .halves .now) (from .pre .0)), ((from .pre .1 .0, omega arith), from .pre .1 .1))
+    (rw (second (lower c)) (upper-rows (from .args .shape) (from .args .halves .now) (from .pre .0)), from .pre .1)
 
 same-length : tie.Need-same-length
 same-length c = search needs
 
 returns : tie.Need-returns
-unfolding S
 returns c =
     let at-upper = c .before .before in
     let last = at-upper .all-months-back2 in
@@ -77,8 +72,8 @@ returns c =
     let from = start (at-lower .before) in
     let xs = from .args .halves .now in
     let half = rows-size (from .args .shape) in (
-      rw (down-by, first-half xs (first .last .0) (last .last .0) half (from .pre .0 .size) (first .kept .0)) (first .ensures .0),
-      rw (up-by, second-half xs (first .last .0) (last .last .0) half (from .pre .0 .size) (first .kept .0)) (rw (second at-lower) at (last .ensures .0)),
+      rw (first-half xs (first .last .0) (last .last .0) half (from .pre .0 .size) (first .kept .0)) (first .ensures .0),
+      rw (second-half xs (first .last .0) (last .last .0) half (from .pre .0 .size) (first .kept .0)) (rw (second at-lower) at (last .ensures .0)),
     )
 
 pub listed-halves-back-spec : {M : Type 1} → statement M

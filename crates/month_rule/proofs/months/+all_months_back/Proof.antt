@@ -7,11 +7,10 @@ use borrow.Fn.Kinds.{In}
 use borrow.Fn.PlainCycle.{Measures, is, falls, and}
 use lib.ListN.{length, getD, take, drop, length-drop}
 use lib.Seq.{length-take-le}
-use Rattle.model.specs.Scale.{S}
 use Rattle.model.specs.Levels.{gain, largest-level}
 use Rattle.model.proofs.LevelLaws.{level-next, level-from}
 use Rattle.claims.specs.Listing.{Listing}
-use Rattle.month_rule.specs.Rows.{round-by, MonthTerms, PlanTerms}
+use Rattle.month_rule.specs.Rows.{MonthTerms, PlanTerms}
 use Rattle.month_rule.specs.Shapes.{RowsIn}
 use Rattle.month_rule.proofs.RowLaws.{parts-part}
 use Rattle.month_rule.proofs.ManyRows.{row-fits, rows-in-again}
@@ -72,9 +71,6 @@ terms-known t s = s .pre .1 .1 .1 .0
 listing-known : (t : ℕ) (s : Start t) → Listing (s .args .severity .now) (s .args .sizes .now) (s .args .dense)
 listing-known t s = s .pre .1 .1 .1 .1
 
-bias-known : (t : ℕ) (s : Start t) → s .args .bias < S
-bias-known t s = s .pre .1 .1 .0 .1
-
 -- a month's gain keeps within the rows
 record Fits (opening months width size : ℕ) : Type 0 where
   some-month : 0 < months
@@ -100,7 +96,7 @@ all-months-back-returns : (t : ℕ) → all-months-back-lts.Need-returns (claims
 all-months-back-returns t c =
     let from = c .before .before .before .before .before in
     let a = from .args in
-    (rw (no-chances (a .chances .now) (omega arith)) (taken-back-none (round-by (a .bias)) (a .severity .now) (a .shape) (a .opening) (a .rows .now)), rows-known t from .parts)
+    (rw (no-chances (a .chances .now) (omega arith)) (taken-back-none (a .round) (a .severity .now) (a .shape) (a .opening) (a .rows .now)), rows-known t from .parts)
 
 all-months-back-add-after : (t : ℕ) → all-months-back-lts.Need-add-after (claims t) (all-months-back-at t) all-months-back.Post
 unfolding gain
@@ -125,7 +121,7 @@ all-months-back-all-months-back-requires t c κs =
     let fewer : length (take (n - 1) (drop 1 (a .chances .now))) ≡ n - 1 = length-take-le (n - 1) (drop 1 (a .chances .now)) (omega (arith, length-drop 1 (a .chances .now))) in
     let terms : PlanTerms (a .severity .now) (take (n - 1) (drop 1 (a .chances .now))) =
     record { weights-fit = terms-known t from .weights-fit; sizes-fit = terms-known t from .sizes-fit; chances-fit = parts-part (a .chances .now) 1 (n - 1) (terms-known t from .chances-fit) } in
-    (omega (arith, fewer, fits t else1 .some-month, from .pre .0), (rows-known t from, ((rw fewer (fits t else1 .levels), bias-known t from), (terms, listing-known t from))))
+    (omega (arith, fewer, fits t else1 .some-month, from .pre .0), (rows-known t from, (rw fewer (fits t else1 .levels), (terms, listing-known t from))))
 
 all-months-back-shared-slice-read-month-back : (t : ℕ) → all-months-back-lts.Need-shared-slice-read-month-back (claims t) (all-months-back-at t) all-months-back.Post
 all-months-back-shared-slice-read-month-back t c = omega (arith, fits t (some-months t (later t c .before)) .some-month)
@@ -137,12 +133,11 @@ all-months-back-month-back-requires t c κs =
     let else1 = some-months t (back .before) in
     let from = start t else1 in
     let a = from .args in
-    let terms : MonthTerms (a .severity .now) (a .sizes .now) (a .dense) (getD (a .chances .now) 0 0) (a .bias) =
+    let terms : MonthTerms (a .severity .now) (a .sizes .now) (a .dense) (getD (a .chances .now) 0 0) =
     record {
       weights-fit = terms-known t from .weights-fit;
       listing = listing-known t from;
       chance-fits = terms-known t from .chances-fit .each 0;
-      bias-fits = bias-known t from;
     } in (
       rows-in-again (a .shape) (a .rows .now) (back .all-months-back .last .0) (rows-known t from) (back .all-months-back .kept .0) (back .all-months-back .ensures .1),
       (record { gained = omega arith; inside = fits t else1 .first }, terms),
@@ -161,7 +156,7 @@ all-months-back-returns-2 t c =
     let else1 = some-months t (at-rest .before) in
     let a = start t else1 .args in (
       rw (first-and-rest (a .chances .now) (fits t else1 .some-month))
-          (taken-back-more (round-by (a .bias)) (a .severity .now) (a .shape) (a .opening) (getD (a .chances .now) 0 0) (take (length (a .chances .now) - 1) (drop 1 (a .chances .now)))
+          (taken-back-more (a .round) (a .severity .now) (a .shape) (a .opening) (getD (a .chances .now) 0 0) (take (length (a .chances .now) - 1) (drop 1 (a .chances .now)))
           (a .rows .now) (rest .last .0) (first .last .0) (rest .ensures .0) (first .ensures .0) (first .ensures .1 .0)),
       first .ensures .1 .1,
     )

@@ -1,7 +1,6 @@
 -- `month_back` meets its contract: the rows lie forbidden, and go back (`month-forbidden`).
 use mathlib.Core.Path.{_∙_}
 use borrow.Author.Needs.{needs}
-use Rattle.month_rule.specs.Rows.{round-by}
 use Rattle.month_rule.specs.Shapes.{values-in, rule-by}
 use Rattle.month_rule.proofs.ManyRows.{rows-in-again, forbidden-levels}
 use Rattle.month_rule.proofs.AllMonths.{month-forbidden}
@@ -38,7 +37,7 @@ returns c =
     let levels = forbidden-levels (a .shape) (a .top) (from .pre .1 .0 .inside) (a .rows .now) (clear .last .0) (clear .ensures .0) in (
       λ k l s m.
           back .ensures .0 k l s m
-          ∙ month-forbidden (round-by (a .bias)) (a .severity .now) (a .shape) (a .top) (a .chance) (values-in (a .shape) (a .top) (a .rows .now))
+          ∙ month-forbidden (a .round) (a .severity .now) (a .shape) (a .top) (a .chance) (values-in (a .shape) (a .top) (a .rows .now))
           (values-in (a .shape) (a .top) (clear .last .0)) levels k l s m,
       (
         λ k l i m b. back .ensures .1 .0 k l i m b ∙ clear .ensures .0 k l i b,

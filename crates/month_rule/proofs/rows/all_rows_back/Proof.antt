@@ -6,6 +6,7 @@ use Prim.Native.Nat.{ℕ, _+_, _*_, _-_, _<_, _≤_}
 use native.Mathlib.Nat.{le-trans}
 use native.Mathlib.Omega.{arith}
 use lib.ListN.{length, length-take}
+use Rattle.model.specs.declared.Rounding.{Rounding}
 use Rattle.model.specs.Levels.{gain}
 use Rattle.claims.proofs.ListingLaws.{listing-take}
 use Rattle.month_rule.specs.Rows.{MonthTerms}
@@ -14,16 +15,16 @@ use Rattle.month_rule.proofs.OneMonth.{rows-before, rows-left, own-size
 use Rattle.month_rule.proofs.rows.all_rows_back.Statement.{statement}
 use Rattle.month_rule.proofs.rows.all_rows_back.Tie as tie
 
-record Inv (old : List ℕ) (top : ℕ) (F : List ℕ) (P bias : ℕ) (tallied : Bool) (width live last : ℕ) (rows : List ℕ) (j : ℕ) : Type 0 where
+record Inv (old : List ℕ) (top : ℕ) (F : List ℕ) (P : ℕ) (round : Rounding) (tallied : Bool) (width live last : ℕ) (rows : List ℕ) (j : ℕ) : Type 0 where
   within : j ≤ last
   levels : live + gain ≡ top + 1
-  back : GoingBack last width live (rows-before bias F P tallied (rows-left last width top old)) old rows j
+  back : GoingBack last width live (rows-before round F P tallied (rows-left last width top old)) old rows j
 
 abbrev Inv-loop : tie.InvT-loop
-Inv-loop rows₀ top severity sizes dense chance bias tallied width live last j₀ rows j = Inv rows₀ top severity chance bias tallied width live last rows j
+Inv-loop rows₀ top severity sizes dense chance round tallied width live last j₀ rows j = Inv rows₀ top severity chance round tallied width live last rows j
 
 abbrev μ-loop : tie.MeasureT-loop
-μ-loop rows₀ top severity sizes dense chance bias tallied width live last j₀ rows j = last - j
+μ-loop rows₀ top severity sizes dense chance round tallied width live last j₀ rows j = last - j
 
 add-live : tie.Need-add-live Inv-loop μ-loop
 add-live c =
@@ -116,7 +117,7 @@ loop-again c =
       levels = loop .inv .levels;
       back =
           going-back-turn _ (a .shape .width) (a .shape .tallied) (a .top) _ (loop .inv .levels) (from .pre .1 .0 .inside) (a .rows .now) (a .severity .now) (a .chance)
-          (a .bias) (loop .rows) (loop .j) (at-turn .loop-test .taken) (loop .inv .back) (call .last .0) (call .kept .0) (call .ensures .1) (call .ensures .0);
+          (a .round) (loop .rows) (loop .j) (at-turn .loop-test .taken) (loop .inv .back) (call .last .0) (call .kept .0) (call .ensures .1) (call .ensures .0);
     }
 
 mul-start-2 : tie.Need-mul-start-2 Inv-loop μ-loop
@@ -137,12 +138,11 @@ row-back-requires-2 c κs =
     let at-sizes = sized c in
     let inv = ended at-sizes .before .loop .inv in
     let from = start (ended at-sizes .before) in
-    let own : MonthTerms _ (from .args .sizes .now) (from .args .dense) (from .args .chance) (from .args .bias) =
+    let own : MonthTerms _ (from .args .sizes .now) (from .args .dense) (from .args .chance) =
     record {
       listing = listing-take (from .args .severity .now) (from .args .sizes .now) (from .args .dense) (at-sizes .own-sizes .result) (own-fits at-sizes) (from .pre .1 .1 .listing);
       weights-fit = le-trans (total-take-le (at-sizes .own-sizes .result) (from .args .severity .now)) (from .pre .1 .1 .weights-fit);
       chance-fits = from .pre .1 .1 .chance-fits;
-      bias-fits = from .pre .1 .1 .bias-fits;
     } in
     ((omega arith, inv .levels, omega (arith, last-fits (ended at-sizes), inv .back .same-length)), (inv .back .parts, own))
 
@@ -150,7 +150,7 @@ done :
     (c : tie.After-row-back2 Inv-loop μ-loop) →
     let a = start (ended (sized (c .before)) .before) .args in
     GoingBack (a .shape .rows - 1) (a .shape .width) (a .top + 1 - gain)
-    (rows-before (a .bias) (a .severity .now) (a .chance) (a .shape .tallied) (rows-left (a .shape .rows - 1) (a .shape .width) (a .top) (a .rows .now)))
+    (rows-before (a .round) (a .severity .now) (a .chance) (a .shape .tallied) (rows-left (a .shape .rows - 1) (a .shape .width) (a .top) (a .rows .now)))
     (a .rows .now) (c .row-back2 .last .0) (a .shape .rows - 1 + 1)
 unfolding gain
 done c =
@@ -161,7 +161,7 @@ done c =
     let from = start (ended at-sizes .before) in
     let a = from .args in
     let here : loop .j ≡ a .shape .rows - 1 = omega (arith, loop .inv .within, ended at-sizes .loop-test .left) in
-    going-back-end _ (a .shape .width) (a .shape .tallied) (a .top) _ (loop .inv .levels) (from .pre .1 .0 .inside) (a .rows .now) (a .severity .now) (a .chance) (a .bias)
+    going-back-end _ (a .shape .width) (a .shape .tallied) (a .top) _ (loop .inv .levels) (from .pre .1 .0 .inside) (a .rows .now) (a .severity .now) (a .chance) (a .round)
     (loop .rows) (loop .j) here (loop .inv .back) (own .result) (own .ensures) (call .last .0) (call .kept .0) (call .ensures .1) (call .ensures .0)
 
 same-length : tie.Need-same-length Inv-loop μ-loop
@@ -178,11 +178,11 @@ returns c =
     let a = from .args in
     let whole : (k : ℕ) → k < a .shape .rows → k ≤ a .shape .rows - 1 = λ k l. omega arith in (
       (λ k l.
-          going-back-done _ (a .shape .width) (a .shape .tallied) (a .top) _ (inv .levels) (from .pre .1 .0 .inside) (a .rows .now) (a .severity .now) (a .chance) (a .bias) _ _
+          going-back-done _ (a .shape .width) (a .shape .tallied) (a .top) _ (inv .levels) (from .pre .1 .0 .inside) (a .rows .now) (a .severity .now) (a .chance) (a .round) _ _
           (omega arith) (done at-call) k (whole k l)),
       (
         (λ k l.
-            going-back-beyond _ (a .shape .width) (a .shape .tallied) (a .top) _ (inv .levels) (from .pre .1 .0 .inside) (a .rows .now) (a .severity .now) (a .chance) (a .bias) _ _
+            going-back-beyond _ (a .shape .width) (a .shape .tallied) (a .top) _ (inv .levels) (from .pre .1 .0 .inside) (a .rows .now) (a .severity .now) (a .chance) (a .round) _ _
             (omega arith) (done at-call) k (whole k l)),
         done at-call .parts,
       ),

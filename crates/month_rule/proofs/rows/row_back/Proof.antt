@@ -1,28 +1,29 @@
 -- `row_back` meets its contract. The invariant: the places passed are new and the rest is old (`Rewriting`), and from `first` on the list serves the
 -- ranges still to come (`ListedFrom`).
 use mathlib.Core.Path.{_≡_, refl}
-use Prim.Native.Nat.{_+_, _*_, _-_, _<_, _≤_, min}
+use Prim.Native.Nat.{ℕ, _+_, _*_, _-_, _<_, _≤_, min}
 use native.Mathlib.Omega.{arith}
 use lib.ListN.{length, take, drop}
 use lib.Seq.{getD-drop}
 use Rattle.model.specs.Scale.{S}
 use Rattle.model.specs.MonthRule.{claim-sum}
 use Rattle.model.proofs.LevelLaws.{gain-some}
+use Rattle.model.proofs.Month.{value-fits}
 use Rattle.claims.specs.Values.{from-top}
 use Rattle.claims.specs.Listing.{ListsRange}
 use Rattle.claims.proofs.ListingLaws.{ListedFrom, listed-from-start, listed-from-turn, listed-part}
 use Rattle.claims.proofs.SummingLaws.{claim-sum-fits}
-use Rattle.month_rule.proofs.ValueLaws.{value-le}
+use Rattle.month_rule.proofs.ValueLaws.{whole-again}
 use Rattle.month_rule.proofs.RowLaws.{parts-part, length-part, row-before, Rewriting, rewriting-start, rewriting-turn, sum-beyond, value-before}
 use Rattle.month_rule.proofs.rows.row_back.Statement.{statement}
 use Rattle.month_rule.proofs.rows.row_back.Tie as tie
 
 abbrev Inv-loop : tie.InvT-loop
-Inv-loop rows₀ quiet claimed top live severity sizes dense chance bias end first₀ i₀ rows first i =
-    (i ≤ live) × Rewriting rows₀ quiet (row-before bias severity chance quiet claimed top live rows₀) rows i × ListedFrom severity sizes dense (min (top - i) (length severity)) first
+Inv-loop rows₀ quiet claimed top live severity sizes dense chance round end first₀ i₀ rows first i =
+    (i ≤ live) × Rewriting rows₀ quiet (row-before round severity chance quiet claimed top live rows₀) rows i × ListedFrom severity sizes dense (min (top - i) (length severity)) first
 
 abbrev μ-loop : tie.MeasureT-loop
-μ-loop rows₀ quiet claimed top live severity sizes dense chance bias end first₀ i₀ rows first i = live - i
+μ-loop rows₀ quiet claimed top live severity sizes dense chance round end first₀ i₀ rows first i = live - i
 
 add-end : tie.Need-add-end Inv-loop μ-loop
 add-end c = omega arith
@@ -129,23 +130,31 @@ claim-sum-requires c κs =
     let range = listed-part (a .severity .now) (a .sizes .now) (a .dense) (at-range .first-within .result) (at-range .before .lesser .result) _ (listed at-range .0) most in
     (parts-part (loop .rows) next (end - next) (loop .inv .1 .parts), (from .pre .1 .1 .weights-fit, (range, from .pre .1 .1 .listing .no-gap)))
 
--- the claim sum of a turn is over the old row, and fits
+-- the claim sum of a turn, from its quotient and what is left over
+abbrev whole : tie.After-claim-sum Inv-loop μ-loop → ℕ
+whole c = c .claim-sum .result .quotient * S + c .claim-sum .result .remainder
+
+-- … is over the old row, and fits
 sum-is :
     (c : tie.After-claim-sum Inv-loop μ-loop) →
     let a = start (at-loop (summed c)) .args in
-    c .claim-sum .result .sum ≡ claim-sum (a .severity .now) (from-top (a .top) (drop (a .claimed) (a .rows .now))) (a .top - at-loop (summed c) .loop .i)
+    whole c ≡ claim-sum (a .severity .now) (from-top (a .top) (drop (a .claimed) (a .rows .now))) (a .top - at-loop (summed c) .loop .i)
 sum-is c =
     let from = start (at-loop (summed c)) in
     let a = from .args in
     let loop = at-loop (summed c) .loop in
-    sum-beyond (a .rows .now) (a .severity .now) (a .quiet) (a .claimed) (a .top) (a .live) (a .chance) (a .bias) (from .pre .0 .0) (from .pre .0 .1)
-    (loop .rows) (loop .i) (omega arith) (inside (summed c) .1) (loop .inv .1) _ _ refl refl _ (c .claim-sum .ensures .0)
+    sum-beyond (a .rows .now) (a .severity .now) (a .quiet) (a .claimed) (a .top) (a .live) (a .chance) (a .round) (from .pre .0 .0) (from .pre .0 .1)
+    (loop .rows) (loop .i) (omega arith) (inside (summed c) .1) (loop .inv .1) _ _ refl refl _
+    (whole-again _ _ _ (c .claim-sum .ensures .0) (c .claim-sum .ensures .1 .0) .0)
 
-sum-fits : (c : tie.After-claim-sum Inv-loop μ-loop) → c .claim-sum .result .sum ≤ S * S
+sum-fits : (c : tie.After-claim-sum Inv-loop μ-loop) → whole c ≤ S * S
 sum-fits c =
     let from = start (at-loop (summed c)) in
     rw (sum-is c)
     (claim-sum-fits (from .args .severity .now) _ (from .pre .1 .1 .weights-fit) (λ s. rw getD-drop (from .pre .1 .0 .each _)) _)
+
+left-fits : (c : tie.After-claim-sum Inv-loop μ-loop) → c .claim-sum .result .remainder < S
+left-fits c = whole-again _ _ _ (c .claim-sum .ensures .0) (c .claim-sum .ensures .1 .0) .1
 
 add-place : tie.Need-add-place Inv-loop μ-loop
 add-place c = omega (arith, inside (summed c))
@@ -160,7 +169,7 @@ month-value-requires : tie.Need-month-value-requires Inv-loop μ-loop
 month-value-requires c κs =
     let from = start (at-loop (summed (c .before))) in
     let loop = at-loop (summed (c .before)) .loop in
-    (from .pre .1 .1 .chance-fits, loop .inv .1 .parts .each _, sum-fits (c .before), from .pre .1 .1 .bias-fits)
+    (from .pre .1 .1 .chance-fits, loop .inv .1 .parts .each _, sum-fits (c .before), left-fits (c .before))
 
 mul-rows : tie.Need-mul-rows Inv-loop μ-loop
 mul-rows c = omega (arith, inside (summed (c .before .before)))
@@ -183,11 +192,11 @@ loop-again c =
     let a = from .args in (
       omega (arith, here),
       rewriting-turn (a .rows .now) (a .quiet) _ (loop .rows) (loop .i) (c .month-value .result) (loop .inv .1) (omega (arith, inside (summed read)))
-          (value-before (a .rows .now) (a .severity .now) (a .quiet) (a .claimed) (a .top) (a .live) (a .chance) (a .bias) (from .pre .0 .0) (from .pre .0 .1)
-          (loop .i) _ (read .claim-sum .result .sum) here (loop .inv .1 .so-far .later _ (omega arith)) (sum-is read) _ (c .month-value .ensures))
+          (value-before (a .rows .now) (a .severity .now) (a .quiet) (a .claimed) (a .top) (a .live) (a .chance) (a .round) (from .pre .0 .0) (from .pre .0 .1)
+          (loop .i) _ (whole read) here (loop .inv .1 .so-far .later _ (omega arith)) (sum-is read) _ (c .month-value .ensures))
           (rw (c .month-value .ensures)
-          (value-le (a .chance) _ (read .claim-sum .result .sum) (a .bias) (from .pre .1 .1 .chance-fits) (loop .inv .1 .parts .each _) (sum-fits read)
-          (from .pre .1 .1 .bias-fits))),
+          (value-fits (a .round) (a .chance) _ (read .claim-sum .result .quotient) (read .claim-sum .result .remainder) (from .pre .1 .1 .chance-fits)
+          (loop .inv .1 .parts .each _) (sum-fits read))),
       listed (ranged (read .before)) .1,
     )
 

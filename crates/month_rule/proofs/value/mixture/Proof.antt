@@ -27,7 +27,7 @@ add-divide c = omega (arith, fits c)
 
 divide-requires : tie.Need-divide-requires
 unfolding S
-divide-requires c κs = (fits c, c .pre .3)
+divide-requires c κs = fits c
 
 returns : tie.Need-returns
 unfolding S
