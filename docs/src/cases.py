@@ -172,6 +172,13 @@ def claim_plans(rng):
         yield LARGEST, [some_chance(rng) for _ in range(MONTHS)] + table + [0]
 
 
+def rounding_plans():
+    """Chances and tables whose claim sums leave next to nothing, nearly S, or something between over when they are divided by S."""
+    tables = [1, S - 1], [S - 1, 1], [S // 3, S // 3, S - 2 * (S // 3)]
+    for n, u, chance, weights in itertools.product((1, 3, MONTHS), (1, 2), (1, S // 3, S // 2, S - 1, S), tables):
+        yield Head(n, u, len(weights)), [chance] * n + weights + [0]
+
+
 # ---- Plan bytes
 
 
@@ -276,6 +283,12 @@ def add_claim_sums(calls, rng):
     calls.claims(head, row[:-1], 2)
 
 
+def add_roundings(calls):
+    for head, row in rounding_plans():
+        for question in (SURVIVE, Question("both", 1), fails(head.months)):
+            calls.ask(head, row, question)
+
+
 def all_calls():
     calls = Calls()
     add_edges(calls)
@@ -283,6 +296,7 @@ def all_calls():
     add_random_plans(calls, random.Random(1), random.Random(5))
     add_claim_sums(calls, random.Random(7))
     add_openings(calls)
+    add_roundings(calls)
     return calls
 
 

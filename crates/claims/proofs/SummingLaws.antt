@@ -2,7 +2,7 @@
 use mathlib.Core.Path.{_≡_, sym, _∙_, ap}
 use mathlib.Core.List.{List, _++_, map, map-append}
 use Prim.Native.Nat.{ℕ, zero, suc, _+_, _*_, _-_, _≤_, _<_, min}
-use native.Mathlib.Nat.{le-trans, mul-le-mul-right, zero-mul}
+use native.Mathlib.Nat.{zero-mul}
 use native.Mathlib.Numerals.{add-one}
 use native.Mathlib.Omega.{arith}
 use lib.ListN.{length, getD, drop, length-append, List·getD-append, drop-of-length-le}
@@ -10,17 +10,13 @@ use lib.Seq.{drop-cons}
 use Rattle.model.specs.Scale.{S}
 use Rattle.model.specs.Sums.{sum, total}
 use Rattle.model.specs.Plan.{nth}
-use Rattle.model.specs.MonthRule.{Row, claim-sum}
+use Rattle.model.specs.MonthRule.{claim-sum}
 use Rattle.model.specs.FilledSizes.{filled-sizes, filled-sum, filled-count}
 use Rattle.model.proofs.SumLaws.{sum-ext, sum-last, total-append}
-use Rattle.model.proofs.Month.{claim-sum-bound}
+use Rattle.model.proofs.Month.{claim-sum-fits}
 use Rattle.model.proofs.FilledLaws.{filled-total, filled-sum-is, filled-inside, filled-count-is, filled-all}
 use Rattle.claims.specs.Values.{from-top, Parts}
 use Rattle.claims.specs.Listing.{product, SizesIn, NoGap, ListsRange}
-
--- nothing passes S × S
-pub claim-sum-fits : (F : List ℕ) (Y : Row) → total F ≤ S → ((s : ℕ) → Y s ≤ S) → (s : ℕ) → claim-sum F Y s ≤ S * S
-claim-sum-fits F Y hF hY s = le-trans (claim-sum-bound F Y S hY s) (mul-le-mul-right S hF)
 
 -- a weight and a value read one place before their size
 pub product-read :

@@ -2,7 +2,7 @@
 use mathlib.Core.Path.{_≡_, refl, sym, _∙_, ap}
 use mathlib.Core.List.{List, [], _∷_, _++_, append-nil, append-assoc}
 use Prim.Native.Nat.{ℕ, zero, suc, _+_, _*_, _-_, _≤_, zero-le, _<_}
-use native.Mathlib.Nat.{add-comm, le-refl}
+use native.Mathlib.Nat.{add-comm}
 use native.Mathlib.Numerals.{add-one}
 use native.Mathlib.Omega.{arith}
 use lib.ListN.{length, getD, take, drop, set, drop-of-length-le, List·getD-append}
@@ -19,8 +19,6 @@ use Rattle.model.specs.Plan.{plan-of}
 use Rattle.model.specs.Exact.{exact-count}
 use Rattle.model.specs.Bounds.{Encloses, count-lower, count-upper}
 use Rattle.model.specs.Refusal.{plan-refusal, Accepted}
-use Rattle.model.proofs.Quotients.{quotient-le}
-use Rattle.model.proofs.Month.{scale-positive, mixture-le}
 use Rattle.model.proofs.Theorems.{count-enclosure}
 use Rattle.engine.specs.declared.CountRow.{CountRow}
 use Rattle.claims.specs.Values.{Parts}
@@ -28,7 +26,7 @@ use Rattle.month_rule.specs.Rows.{at}
 use Rattle.engine.specs.Counts.{CountParts, rows-after}
 use Rattle.engine.specs.declared.CountAnswer.{CountAnswer}
 use Rattle.engine.specs.Answers.{count-rows, count-refused, count-answer}
-use Rattle.model.proofs.Counts.{length-tabulate, getD-tabulate}
+use Rattle.model.proofs.Counts.{length-tabulate, getD-tabulate, count-month-fits, no-months-fit}
 
 -- the row after one more month
 abbrev pub count-after : Rounding → ℕ → List ℕ → Row
@@ -100,6 +98,12 @@ module _ (old : List ℕ) (round : Rounding) (P : ℕ) where
   first-value row v l e ev =
       rw (ev, new-from-below row 0 0 l e (omega arith)) (ap (λ (n : ℕ). quotient round n S) (add-comm ((S - P) * getD old 0 0) (P * 0)))
 
+-- of a row with all its places
+pub count-after-whole :
+    (round : Rounding) (P : ℕ) (old new : List ℕ) → length old ≡ places → new ≡ tabulate (length old) (count-after round P old) →
+    new ≡ tabulate places (count-month round P (at old))
+count-after-whole round P old new n e = rw (← n) e
+
 parts-tabulate : (n : ℕ) (row : Row) → ((k : ℕ) → row k ≤ S) → Parts (tabulate n row)
 unfolding tabulate
 parts-tabulate n row h = record { each = go n row h }
@@ -108,22 +112,6 @@ parts-tabulate n row h = record { each = go n row h }
     go zero row h k = zero-le
     go (suc n) row h zero = h 0
     go (suc n) row h (suc k) = go n (λ i. row (suc i)) (λ i. h (suc i)) k
-
--- the values after a month are at most S again
-count-after-le : (round : Rounding) (P : ℕ) → P ≤ S → (row : Row) → ((k : ℕ) → row k ≤ S) → (k : ℕ) → count-month round P row k ≤ S
-unfolding count-month one-before
-count-after-le round P hP row h k =
-    rw (add-comm (P * one-before row k) ((S - P) * row k))
-    (quotient-le round _ S S scale-positive (mixture-le P (row k) (one-before row k) S hP (h k) (before-le k)))
-  where
-    before-le : (k : ℕ) → one-before row k ≤ S
-    before-le zero = zero-le
-    before-le (suc k) = h k
-
-no-months-le : (k : ℕ) → no-months k ≤ S
-unfolding no-months
-no-months-le zero = le-refl S
-no-months-le (suc k) = zero-le
 
 -- a month at place k reads no place above k, and so do all months
 count-month-agree :
@@ -189,7 +177,7 @@ pub counting-rows-start : (chances : List ℕ) → Counting chances (count-rows 
 unfolding count-rows count-row after-months
 counting-rows-start chances =
     record {
-      parts = whole-parts no-months no-months no-months-le no-months-le;
+      parts = whole-parts no-months no-months no-months-fit no-months-fit;
       lower-ahead = ahead-start Down chances;
       upper-ahead = ahead-start Up chances;
     }
@@ -202,8 +190,8 @@ counting-rows-turn chances h row t l c =
     record {
       parts =
           whole-parts (count-month Down P (at (row .lower))) (count-month Up P (at (row .upper)))
-          (count-after-le Down P (h .each t) (at (row .lower)) (c .parts .lower-parts .each))
-          (count-after-le Up P (h .each t) (at (row .upper)) (c .parts .upper-parts .each));
+          (λ k. count-month-fits Down P (h .each t) (at (row .lower)) (c .parts .lower-parts .each) k .value)
+          (λ k. count-month-fits Up P (h .each t) (at (row .upper)) (c .parts .upper-parts .each) k .value);
       lower-ahead = ahead-turn Down chances (row .lower) t l (c .lower-ahead);
       upper-ahead = ahead-turn Up chances (row .upper) t l (c .upper-ahead);
     }

@@ -215,7 +215,7 @@ pub unrounded-count-is-exact :
 unfolding exact-count
 unrounded-count-is-exact p whole k = rw weight-is (after-months-weigh (p .severity) (p .tail) whole (p .chances) k)
 
-no-months-fit : (k : ℕ) → no-months k ≤ S
+pub no-months-fit : (k : ℕ) → no-months k ≤ S
 unfolding no-months
 no-months-fit zero = le-refl S
 no-months-fit (suc k) = omega arith

@@ -192,8 +192,8 @@ ruin-row-gap F tail (suc P) s =
     (omega (arith, quotient-gap (suc P * ruin-weight F tail (s + gain)) (suc P * ruin-weight F tail (s + gain)) S 0 scale-positive (omega arith)))
 
 -- … and nothing passes S × S, or S once it is divided.
-module _ (F : List ℕ) (tail : ℕ) (whole : total F + tail ≡ S) where
-  ruin-weight-fits : (r : ℕ) → ruin-weight F tail r ≤ S
+module _ (F : List ℕ) (tail : ℕ) (weights-fit : total F + tail ≤ S) where
+  pub ruin-weight-fits : (r : ℕ) → ruin-weight F tail r ≤ S
   unfolding ruin-weight
   ruin-weight-fits r = omega (arith, total-drop-le (r - 1) F)
 

@@ -87,6 +87,10 @@ pub claim-sum-bound : (F : List ℕ) (Y : Row) (B : ℕ) → ((s : ℕ) → Y s 
 claim-sum-bound F Y B h s =
     omega (arith, claim-sum-le F Y (λ _. 0) B (λ i. omega (arith, h i)) s, claim-sum-zero F s)
 
+-- so that of an accepted plan's weights over values in parts of S does not pass S × S
+pub claim-sum-fits : (F : List ℕ) (Y : Row) → total F ≤ S → ((s : ℕ) → Y s ≤ S) → (s : ℕ) → claim-sum F Y s ≤ S * S
+claim-sum-fits F Y hF hY s = le-trans (claim-sum-bound F Y S hY s) (mul-le-mul-right S hF)
+
 module _ {rel : ℕ → ℕ → Type 0} {round : Rounding} (d : Direction rel round) where
   open Direction d using (same, then, plus, times, rounds)
 
@@ -199,7 +203,7 @@ month-fits round F hF P hP X Y hX hY s =
     C = claim-sum F Y (s + gain)
 
     c : C ≤ S * S
-    c = le-trans (claim-sum-bound F Y S hY (s + gain)) (mul-le-mul-right S hF)
+    c = claim-sum-fits F Y hF hY (s + gain)
 
     whole : C / S * S + C % S ≤ S * S
     whole = rw (div-add-mod' C S) c

@@ -94,6 +94,9 @@ module _ (h : Head) (row : List ℕ) (accepted : Accepted h row) where
   weights-add : total (p .severity) + p .tail ≡ S
   weights-add = facts h row accepted .weights-add
 
+  weights-fit : total (p .severity) + p .tail ≤ S
+  weights-fit = omega (arith, weights-add)
+
   chances-fit : (i : ℕ) → getD (p .chances) i 0 ≤ S
   unfolding plan-of
   chances-fit = take-fits S (h .months) row (facts h row accepted .numbers-fit)
@@ -326,7 +329,7 @@ module _ (h : Head) (row : List ℕ) (accepted : Accepted h row) where
   bounds-fit q = (bound-fits Down q, bound-fits Up q)
 
   before-fits : (round : Rounding) (t s : ℕ) → before round t s ≤ S
-  before-fits round t s = ruin-row-fits (p .severity) (p .tail) weights-add round (nth (p .chances) t) (chance-fits t) s
+  before-fits round t s = ruin-row-fits (p .severity) (p .tail) weights-fit round (nth (p .chances) t) (chance-fits t) s
 
   ruin-fits : (round : Rounding) (t : ℕ) → ruin-bound round p t ≤ S
   unfolding ruin-bound carried-back
@@ -370,7 +373,7 @@ module _ (h : Head) (row : List ℕ) (accepted : Accepted h row) where
   ruin-limits round r t k s = (
     month-within round Survive (λ _. before round r) (λ _ l. before-fits round r l) t (drop t (take (r - 1) (p .chances)))
         (λ i. rw getD-drop (take-fits S (r - 1) (p .chances) chances-fit (t + i))) k s,
-    ruin-limited (p .severity) (p .tail) weights-add (nth (p .chances) r) (chance-fits r) s,
+    ruin-limited (p .severity) (p .tail) weights-fit (nth (p .chances) r) (chance-fits r) s,
   )
 
   -- the same of month t of the count row, over the row of the months before it

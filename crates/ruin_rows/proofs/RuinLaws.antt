@@ -13,8 +13,7 @@ use Rattle.model.specs.Sums.{total}
 use Rattle.model.specs.Levels.{gain}
 use Rattle.model.specs.MonthRule.{Row, ruin-weight, ruin-row}
 use Rattle.model.proofs.SumLaws.{total-drop-le}
-use Rattle.model.proofs.Quotients.{quotient-le}
-use Rattle.model.proofs.Month.{scale-positive}
+use Rattle.model.proofs.FirstRuin.{ruin-weight-fits, ruin-row-fits}
 use Rattle.ruin_rows.specs.Terms.{RuinTerms}
 
 -- the weight so far and the sizes that are left are the whole
@@ -46,9 +45,7 @@ ruin-places round F tail chance top i = ruin-row round F tail chance (top - i)
 
 -- one value: nothing passes S × S, and the quotient is that of the row
 pub product-fits : (F : List ℕ) (tail chance level weight : ℕ) → RuinTerms F tail chance → weight ≡ ruin-weight F tail level → chance * weight ≤ S * S
-unfolding ruin-weight
-product-fits F tail chance level weight terms e =
-    mul-le-mul (terms .chance-fits) (omega (arith, terms .weights-fit, total-drop-le (level - 1) F))
+product-fits F tail chance level weight terms e = mul-le-mul (terms .chance-fits) (rw e (ruin-weight-fits F tail (terms .weights-fit) level))
 
 pub ruin-value :
     (round : Rounding) (F : List ℕ) (tail chance top i weight value : ℕ) → weight ≡ ruin-weight F tail (top - i + gain) → value ≡ quotient round (chance * weight) S →
@@ -57,10 +54,8 @@ unfolding ruin-row
 ruin-value round F tail chance top i weight value e v = v ∙ ap (λ (w : ℕ). quotient round (chance * w) S) e
 
 pub value-fits :
-    (round : Rounding) (F : List ℕ) (tail chance level weight value : ℕ) → RuinTerms F tail chance → weight ≡ ruin-weight F tail level →
-    value ≡ quotient round (chance * weight) S → value ≤ S
-value-fits round F tail chance level weight value terms e v =
-    rw v (quotient-le round (chance * weight) S S scale-positive (product-fits F tail chance level weight terms e))
+    (round : Rounding) (F : List ℕ) (tail chance top i value : ℕ) → RuinTerms F tail chance → value ≡ ruin-places round F tail chance top i → value ≤ S
+value-fits round F tail chance top i value terms v = rw v (ruin-row-fits F tail (terms .weights-fit) round chance (terms .chance-fits) (top - i))
 
 -- each half of a workspace that is all 0
 module _ (xs : List ℕ) (n half : ℕ) (zeros : xs ≡ replicate n 0) (whole : n ≡ 2 * half) where

@@ -74,13 +74,15 @@ loop-again c =
     let loop = at-loop (weighed c) .loop in
     let from = start (at-loop (weighed c)) in
     let a = from .args in
-    let value = rw (c .before .wide .ensures) at (c .divide .ensures) in (
+    let value =
+    ruin-value (a .round) (a .severity .now) (a .tail) (a .chance) (a .top) (loop .i) (weight .result) (c .divide .result) (weight .ensures)
+    (rw (c .before .wide .ensures) at (c .divide .ensures)) in (
       omega (arith, weighed c .before .loop-test .taken),
       rw zero-add at
           (rewriting-turn (a .row .now) 0 _ (loop .row) (loop .i) (c .divide .result) (loop .inv .1)
           (omega (arith, loop .inv .1 .same-length, from .pre .0 .0, weighed c .before .loop-test .taken))
-          (ruin-value (a .round) (a .severity .now) (a .tail) (a .chance) (a .top) (loop .i) (weight .result) (c .divide .result) (weight .ensures) value)
-          (value-fits (a .round) (a .severity .now) (a .tail) (a .chance) _ (weight .result) (c .divide .result) (from .pre .1) (weight .ensures) value)),
+          value
+          (value-fits (a .round) (a .severity .now) (a .tail) (a .chance) (a .top) (loop .i) (c .divide .result) (from .pre .1) value)),
     )
 
 same-length : tie.Need-same-length Inv-loop μ-loop

@@ -1,11 +1,8 @@
 -- `CountRow::month` meets its contract: each row by `count_month`, at its rounding.
-use mathlib.Core.Path.{_∙_, ap}
-use Prim.Native.Nat.{ℕ}
 use native.Mathlib.Omega.{arith}
 use Rattle.model.specs.declared.Rounding.the-variants.{Down, Up}
-use Rattle.model.specs.CountRow.{count-month, tabulate}
-use Rattle.month_rule.specs.Rows.{at}
 use Rattle.engine.specs.Counts.{rows-after}
+use Rattle.engine.proofs.CountLaws.{count-after-whole}
 use borrow.Author.Needs.{needs}
 use Rattle.engine.proofs.CountRow.month.Statement.{statement}
 use Rattle.engine.proofs.CountRow.month.Tie as tie
@@ -43,8 +40,8 @@ returns c =
     let from = start (at-lower .before) in
     let P = from .args .chance in
     let row = from .args .self in
-    let lows = low .ensures ∙ ap (λ (n : ℕ). tabulate n (count-month Down P (at (row .lower)))) (from .pre .0 .lower-length) in
-    let highs = high .ensures ∙ ap (λ (n : ℕ). tabulate n (count-month Up P (at (row .upper)))) (from .pre .0 .upper-length) in
+    let lows = count-after-whole Down P (row .lower) (low .last .0) (from .pre .0 .lower-length) (low .ensures) in
+    let highs = count-after-whole Up P (row .upper) (high .last .0) (from .pre .0 .upper-length) (high .ensures) in
     λ i. record { lower = lows i; upper = highs i }
 
 pub month-spec : {M : Type 1} → statement M

@@ -8,11 +8,10 @@ use lib.Seq.{getD-drop}
 use Rattle.model.specs.Scale.{S}
 use Rattle.model.specs.MonthRule.{claim-sum}
 use Rattle.model.proofs.LevelLaws.{gain-some}
-use Rattle.model.proofs.Month.{value-fits}
+use Rattle.model.proofs.Month.{claim-sum-fits, value-fits}
 use Rattle.claims.specs.Values.{from-top}
 use Rattle.claims.specs.Listing.{ListsRange}
 use Rattle.claims.proofs.ListingLaws.{ListedFrom, listed-from-start, listed-from-turn, listed-part}
-use Rattle.claims.proofs.SummingLaws.{claim-sum-fits}
 use Rattle.month_rule.proofs.ValueLaws.{whole-again}
 use Rattle.month_rule.proofs.RowLaws.{parts-part, length-part, row-before, Rewriting, rewriting-start, rewriting-turn, sum-beyond, value-before}
 use Rattle.month_rule.proofs.rows.row_back.Statement.{statement}
