@@ -25,7 +25,7 @@ claim-sum severity next level = sum (min (level - 1) (length severity)) (λ x. n
 abbrev pub Month : Type 0
 Month = ℕ → Row → Row → Row
 
--- The month "with rounding left out", multiplied by S × S so that it stays whole: (S − P_t) × V_t(s + 1) + P_t × A, where A is the claim sum divided by S
+-- "V_{t-1}(s) = ((S − P_t) × V_t(s + 1) + P_t × A) divided by S", A the claim sum divided by S: the same "with rounding left out", multiplied by S × S so that it stays whole
 unfoldable pub exact-month : List ℕ → Month
 exact-month severity P quiet claimed s = (S - P) * S * quiet (s + gain) + P * claim-sum severity claimed (s + gain)
 

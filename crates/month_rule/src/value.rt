@@ -16,16 +16,21 @@ pub fn divide(x: u64, round: Rounding) -> u32
     }
 }
 
-// One value with this chance and another otherwise.
+// One number with this chance and another otherwise, in parts of the scale.
+fn weighted_sum(chance: u32, otherwise: u64, then: u64) -> u64
+    requires { ⌜ (chance ≤ S) × (otherwise ≤ S) × (then ≤ S) ⌝ }
+    ensures { λ r. ⌜ r ≡ (S - chance) * otherwise + chance * then ⌝ }
+{
+    let p = chance as u64;
+    (WIDE_SCALE - p) * otherwise + p * then
+}
+
+// The same of two values, as a value.
 pub fn mixture(chance: u32, otherwise: u32, then: u32, round: Rounding) -> u32
     requires { ⌜ (chance ≤ S) × (otherwise ≤ S) × (then ≤ S) ⌝ }
     ensures { λ r. ⌜ r ≡ quotient round ((S - chance) * otherwise + chance * then) S ⌝ }
 {
-    let p = chance as u64;
-    divide(
-        (WIDE_SCALE - p) * (otherwise as u64) + p * (then as u64),
-        round,
-    )
+    divide(weighted_sum(chance, otherwise as u64, then as u64), round)
 }
 
 // The value before a month with this chance, from the value with no claim and the claim sum's quotient by the scale and what is left over: rounded once,
@@ -36,8 +41,5 @@ pub fn month_value(chance: u32, quiet: u32, claimed: u64, left: u64, round: Roun
 {
     let p = chance as u64;
     let carried = divide(p * left, round) as u64;
-    divide(
-        (WIDE_SCALE - p) * (quiet as u64) + p * claimed + carried,
-        round,
-    )
+    divide(weighted_sum(chance, quiet as u64, claimed) + carried, round)
 }

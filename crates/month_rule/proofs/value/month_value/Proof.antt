@@ -1,12 +1,12 @@
 -- `month_value` meets its contract: two quotients by S are the one by S × S (`split-is`), and nothing passes S × S.
-use mathlib.Core.Path.{_≡_, sym, _∙_, ap}
-use Prim.Native.Nat.{ℕ, _+_, _*_, _-_, _≤_}
-use native.Mathlib.Nat.{mul-le-mul}
+use mathlib.Core.Path.{_≡_, sym, _∙_, ap, ap₂}
+use Prim.Native.Nat.{ℕ, _+_, _*_, _≤_}
+use native.Mathlib.Nat.{mul-le-mul, le-of-mul-le-mul-right}
 use native.Mathlib.Omega.{arith}
 use borrow.Author.Needs.{needs}
 use Rattle.model.specs.Scale.{S, quotient}
 use Rattle.model.specs.SplitMonth.{split-parts, split-month}
-use Rattle.model.proofs.Month.{split-is, parts-fit}
+use Rattle.model.proofs.Month.{scale-positive, split-is, parts-fit}
 use Rattle.month_rule.proofs.value.month_value.Statement.{statement}
 use Rattle.month_rule.proofs.value.month_value.Tie as tie
 
@@ -27,46 +27,39 @@ cast-carried c = search needs
 carried : (c : tie.After-divide) → let a = c .before .args in c .divide .result ≡ quotient (a .round) (a .chance * a .left) S
 carried c = c .divide .ensures
 
-fits :
-    (c : tie.After-divide) →
-    let a = c .before .args in
-    (S - a .chance) * a .quiet + a .chance * a .claimed + c .divide .result ≤ S * S
+claimed-fits : (c : tie.Start) → c .args .claimed ≤ S
+claimed-fits c = le-of-mul-le-mul-right (let whole = c .pre .2 in omega arith) scale-positive
+
+weighted-sum-requires : tie.Need-weighted-sum-requires
+weighted-sum-requires c κs = let from = c .before in (from .pre .0, from .pre .1, claimed-fits from)
+
+-- both together are the parts of S that the month divides
+parts :
+    (c : tie.After-weighted-sum) →
+    let a = c .before .before .args in
+    c .weighted-sum .result + c .before .divide .result ≡ split-parts (a .round) (a .chance) (a .quiet) (a .claimed) (a .left)
 unfolding split-parts
+parts c = ap₂ (λ (m n : ℕ). m + n) (c .weighted-sum .ensures) (carried (c .before))
+
+fits : (c : tie.After-weighted-sum) → c .weighted-sum .result + c .before .divide .result ≤ S * S
 fits c =
-    let from = c .before in
+    let from = c .before .before in
     let a = from .args in
-    rw (carried c) (parts-fit (a .round) (a .chance) (a .quiet) (a .claimed) (a .left) (from .pre .0) (from .pre .1) (from .pre .2))
-
-sub-divide : tie.Need-sub-divide
-unfolding S
-sub-divide c = omega (arith, fits c)
-
-mul-divide-2 : tie.Need-mul-divide-2
-unfolding S
-mul-divide-2 c = omega (arith, fits c)
-
-mul-divide-3 : tie.Need-mul-divide-3
-unfolding S
-mul-divide-3 c = omega (arith, fits c)
+    rw (parts c) (parts-fit (a .round) (a .chance) (a .quiet) (a .claimed) (a .left) (from .pre .0) (from .pre .1) (from .pre .2))
 
 add-divide : tie.Need-add-divide
 unfolding S
 add-divide c = omega (arith, fits c)
 
-add-divide-2 : tie.Need-add-divide-2
-unfolding S
-add-divide-2 c = omega (arith, fits c)
-
 divide-requires-2 : tie.Need-divide-requires-2
-unfolding S
 divide-requires-2 c κs = fits c
 
 returns : tie.Need-returns
-unfolding S split-parts split-month
+unfolding split-month
 returns c =
-    let a = c .before .before .args in
+    let a = c .before .before .before .args in
     c .divide2 .ensures
-    ∙ ap (λ (n : ℕ). quotient (a .round) ((S - a .chance) * a .quiet + a .chance * a .claimed + n) S) (carried (c .before))
+    ∙ ap (λ (n : ℕ). quotient (a .round) n S) (parts (c .before))
     ∙ sym (split-is (a .round) (a .chance) (a .quiet) (a .claimed) (a .left))
 
 pub month-value-spec : {M : Type 1} → statement M
@@ -76,10 +69,7 @@ month-value-spec =
     mul-divide
     divide-requires
     cast-carried
-    sub-divide
-    mul-divide-2
-    mul-divide-3
+    weighted-sum-requires
     add-divide
-    add-divide-2
     divide-requires-2
     returns)
