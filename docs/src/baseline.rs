@@ -1,11 +1,13 @@
 //! Documents 01 and 02 as a plain Rust program: plan bytes on standard input, the reserve report on standard output. With the argument `sheet`: a
-//! rule sheet on standard input, its plan bytes on standard output or, on standard error, the number that turns it away.
+//! rule sheet on standard input, its plan bytes on standard output or, on standard error, the number that turns it away. With the arguments `least`
+//! and a target: plan bytes on standard input, the least opening that reaches it and its bounds on standard output.
 //!
 //!   rustc -O docs/src/baseline.rs -o OUT
 //!
 //! Written from these documents alone, not from the engine or its definitions. It has the rows and the order of work of these documents: two rows
 //! of u + n + 1 numbers for an answer, k + 1 times that for both k, each replaced in place month by month, from the highest level down, and the
-//! claim sum from the largest size down.
+//! claim sum from the largest size down. The least opening takes one walk over the lower row for all openings and, for the one found, one over
+//! the upper row.
 use std::fmt::{Display, Write as _};
 use std::io::{self, Read, Write as _};
 use std::{env, iter};
@@ -283,6 +285,50 @@ fn count_row(plan: &Plan, add: u64) -> [u32; MONTHS + 1] {
     row
 }
 
+// ---- The least opening that is good enough
+
+/// The lower bounds of the openings 0 to the plan's, by one walk for all of them. "The work is given up in the month when no level reaches the
+/// target any more": what stands there of these openings is below the target too.
+fn lower_bounds(plan: &Plan, target: u64) -> Vec<u32> {
+    let months = plan.chances.len();
+    let mut row = vec![S as u32; plan.opening + months + 1];
+    'months: for t in (1..=months).rev() {
+        month_of(plan, Question::Survive, t, ROUNDINGS[0], &mut row);
+        let levels = &row[..plan.opening + t];
+        if levels.iter().all(|&value| u64::from(value) < target) {
+            break 'months;
+        }
+    }
+    row.truncate(plan.opening + 1);
+    row
+}
+
+/// The least opening up to the plan's that reaches the target, and its bounds, or the number that turns the target away.
+fn least_opening(plan: Plan, target: u64) -> Result<(usize, [u32; 2]), u32> {
+    if target == 0 || target > S {
+        return Err(14);
+    }
+    let lowers = lower_bounds(&plan, target);
+    let opening = lowers.iter().position(|&lower| u64::from(lower) >= target).ok_or(15u32)?;
+    let mut row = vec![0; opening + plan.chances.len() + 1];
+    let upper = value(&Plan { opening, ..plan }, Question::Survive, ROUNDINGS[1], &mut row);
+    Ok((opening, [lowers[opening], upper]))
+}
+
+/// The number of a word of digits; every one above S is taken as S + 1.
+fn target_of(word: &str) -> Option<u64> {
+    let digits = word.chars().map(|digit| digit.to_digit(10).map(u64::from));
+    let number = digits.reduce(|number, digit| Some((10 * number? + digit?).min(S + 1)));
+    number.flatten()
+}
+
+fn least_line(bytes: &[u8], target: u64) -> String {
+    match read(bytes).and_then(|plan| least_opening(plan, target)) {
+        Ok((opening, [lower, upper])) => format!("opening {opening} {lower} {upper}\n"),
+        Err(number) => format!("refused {number}\n"),
+    }
+}
+
 // ---- The reserve report
 
 fn put(text: &mut String, word: &str, number: Option<usize>, [lower, upper]: [impl Display; 2]) {
@@ -323,15 +369,22 @@ fn report(plan: &Plan) -> String {
 fn main() -> io::Result<()> {
     let mut bytes = Vec::new();
     io::stdin().read_to_end(&mut bytes)?;
-    if env::args().nth(1).as_deref() == Some("sheet") {
-        return match read_sheet(&bytes) {
+    let mut words = env::args().skip(1);
+    match words.next().as_deref() {
+        Some("sheet") => match read_sheet(&bytes) {
             Ok((head, row)) => io::stdout().write_all(&write(head, &row)),
             Err(number) => writeln!(io::stderr(), "refused {number}"),
-        };
+        },
+        Some("least") => match words.next().as_deref().and_then(target_of) {
+            Some(target) => io::stdout().write_all(least_line(&bytes, target).as_bytes()),
+            None => writeln!(io::stderr(), "a target is a whole number"),
+        },
+        _ => {
+            let text = match read(&bytes) {
+                Ok(plan) => report(&plan),
+                Err(number) => format!("refused {number}\n"),
+            };
+            io::stdout().write_all(text.as_bytes())
+        }
     }
-    let text = match read(&bytes) {
-        Ok(plan) => report(&plan),
-        Err(number) => format!("refused {number}\n"),
-    };
-    io::stdout().write_all(text.as_bytes())
 }

@@ -3,11 +3,12 @@ import itertools
 import random
 from collections import namedtuple
 
-from plans import EXAMPLE, EXAMPLE_BYTES, ONE_SIZE, WORKED, changed, flat, flipped, gapped, geometric, long_plans, questions, some_chance
-from plans import some_plan, split, timed_plans
+from plans import EXAMPLE, EXAMPLE_BYTES, ONE_SIZE, WORKED, changed, flat, flipped, gapped, geometric, lasting_plan, long_plans, questions
+from plans import some_chance, some_plan, split, timed_plans
 from records import FULL_NUMBER, Calls
 from rules import CLAIMS, HEAD_BYTES, LARGEST, LEVEL, MONTHS, NUMBER_BITS, OPENING, SIZES, SURVIVE, WIDTHS, Head, Question, S
-from rules import all_months, bit_length, byte_length, plan_checks, refusal, row_length, workspace_needed, write_bytes
+from rules import all_months, bit_length, byte_length, down, month_rule, opened, plan_checks, plan_of, refusal, row_length, workspace_needed
+from rules import write_bytes
 
 FULL = 2**64 - 1  # the largest number of a head or a question
 WIDEST = Head(*(2**width - 1 for width in WIDTHS))  # what a head's fields can say
@@ -54,7 +55,7 @@ def tail_edges():
         yield flat(n, u, m)
 
 
-# ---- Asks, for one of the four questions or for failing in a month
+# ---- Asks, for one of the four questions, for failing in a month or for the least opening
 
 Ask = namedtuple("Ask", "head row question room", defaults=[None])  # with no room given, what is needed
 ENOUGH = 3000  # numbers of workspace, where the question needs more than can be lent and is refused for its number
@@ -63,6 +64,11 @@ ENOUGH = 3000  # numbers of workspace, where the question needs more than can be
 def fails(t):
     """Failing in month t, which an ask can have in place of a question."""
     return Question("fails", t)
+
+
+def least(target):
+    """The least opening for a target, in the same way."""
+    return Question("least", target)
 
 
 def number_edges():
@@ -124,11 +130,16 @@ def asking(question):
     return lambda ask: ask._replace(question=question)
 
 
+def ask_faults(*refused):
+    """What turns an ask away, in the order of the table: its plan, each of these questions, a workspace too short."""
+    return [*PLAN_FAULTS.values(), *map(asking, refused), lambda ask: ask._replace(room=0)]
+
+
 def fault_pairs(question, *refused):
-    """Asks that two numbers of the table fit: the smaller one counts. The question is answered, and 10 fits each of those refused."""
+    """Asks that two numbers of the table fit: the earlier one counts. The question is answered, and 10, or 14 in its place, fits each of those
+    refused."""
     whole = Ask(*BRIEF, question, workspace_needed(BRIEF[0], question))
-    faults = [*PLAN_FAULTS.values(), *map(asking, refused), lambda ask: ask._replace(room=0)]
-    for one, other in itertools.combinations_with_replacement(faults, 2):
+    for one, other in itertools.combinations_with_replacement(ask_faults(*refused), 2):
         yield one(other(whole))
 
 
@@ -177,6 +188,92 @@ def rounding_plans():
     tables = [1, S - 1], [S - 1, 1], [S // 3, S // 3, S - 2 * (S // 3)]
     for n, u, chance, weights in itertools.product((1, 3, MONTHS), (1, 2), (1, S // 3, S // 2, S - 1, S), tables):
         yield Head(n, u, len(weights)), [chance] * n + weights + [0]
+
+
+# ---- The least opening
+
+
+def targets_at_bounds(head, row, openings):
+    """The lower bounds of these openings, which each of them still reaches, and one more, which takes a larger one, or none does."""
+    lowers = {month_rule(opened(plan_of(head, row), v), SURVIVE, down) for v in openings}
+    return sorted(target for target in {*lowers, *(lower + 1 for lower in lowers)} if 1 <= target <= S)
+
+
+def target_edges():
+    """From no months and an opening of 0 on; on document 01's example and on BRIEF no opening reaches S."""
+    for plan in (EXAMPLE, BRIEF, flat(0, 0, 1), flat(0, 7, 3), flat(3, 0, 2)):
+        for target in (0, 1, S, S + 1, FULL_NUMBER):
+            yield Ask(*plan, least(target))
+
+
+def bound_edges():
+    """At the bounds of every opening: over above 0 at m + 1 = u + n, an opening of 0, and one month with all openings."""
+    tailed, lone = (Head(3, 2, 4), [S // 3] * 3 + geometric(4)), (Head(2, 0, 3), [S // 5, S // 7] + geometric(3))
+    for head, row in (EXAMPLE, BRIEF, tailed, lone):
+        for target in targets_at_bounds(head, row, range(head.opening + 1)):
+            yield Ask(head, row, least(target))
+    head, row = Head(1, OPENING, OPENING), [S] + geometric(OPENING)
+    for target in targets_at_bounds(head, row, (0, 9, OPENING - 1, OPENING)):
+        yield Ask(head, row, least(target))
+
+
+def given_up():
+    """A month in which no level keeps a value, or all keep one part, the first one worked and the last among them."""
+    for at, chance, target in itertools.product(range(4), (S, S - 1), (1, 2)):
+        yield Ask(Head(4, 3, 6), changed([0] * 4, at, chance) + [0] * 6 + [S], least(target))
+
+
+def not_given_up():
+    """Where of the months worked first only levels above the largest opening are good, at times the highest alone, and where none is."""
+    for n, x in ((3, 2), (6, 5), (6, 6), (6, 8)):  # one claim, of size x, which comes in month n: the fund has to open at x + 1 - n
+        for u in range(max(x - n, 0), x + 4 - n):
+            yield Ask(Head(n, u, x), [0] * (n - 1) + [S] + [0] * (x - 1) + [S, 0], least(S))
+    for n, u in ((4, 4), (4, 5), (4, 6), (5, 2)):  # a unit less in each month: the fund has to open at n + 1
+        yield Ask(Head(n, u, 2), [S] * n + [0, S, 0], least(S))
+
+
+def target_rooms():
+    """Answered, none and refused with 14, in workspaces around what is needed."""
+    needed = workspace_needed(BRIEF[0], SURVIVE)
+    for target, room in itertools.product((1, S, 0), (0, 1, needed - 1, needed, needed + 1, needed + 40)):
+        yield Ask(*BRIEF, least(target), room)
+    for n, u in ((0, 0), (0, 7), (7, 0), (MONTHS, OPENING)):
+        plan = flat(n, u, 1)
+        needed = workspace_needed(plan[0], SURVIVE)
+        for room in (needed - 1, needed, needed + 1):
+            yield Ask(*plan, least(S), room)
+
+
+def target_faults():
+    for head, row in head_edges():
+        yield Ask(head, row, least(1), min(workspace_needed(head, SURVIVE), ENOUGH))
+    yield from fault_pairs(least(1), least(0), least(S + 1))
+    for fault in ask_faults(least(0)):  # "none" comes after all of them
+        yield fault(Ask(*BRIEF, least(S), workspace_needed(BRIEF[0], SURVIVE)))
+    for n, u, m in ((1, 2, 2), (1, 3, 2), (0, 3, 2), (0, 4, 2), (5, 0, 4), (6, 0, 4)):  # over, at m + 1 = u + n and one below
+        yield Ask(*flat(n, u, m, 1), least(S // 2))
+
+
+def long_targets(rng):
+    """The most months and the largest opening: every opening of a narrow table, of which even the highest falls short of S, or it alone reaches
+    S; few openings of wide tables."""
+    for target in (1, S // 2, S - S // 100, S):
+        yield Ask(*flat(MONTHS, OPENING, 3), least(target))
+    yield Ask(Head(MONTHS, OPENING, 3), [0] + [S] * 100 + [0] * (MONTHS - 101) + [0, 0, S, 0], least(S))  # a unit more, 100 times two less
+    yield Ask(LARGEST, [0] * MONTHS + geometric(SIZES), least(S))
+    head, row = LARGEST, [rng.randrange(1, S // 25) for _ in range(MONTHS)] + geometric(SIZES)
+    for target in targets_at_bounds(head, row, (0, 1)):
+        yield Ask(head, row, least(target))
+
+
+def random_targets(rng):
+    """Small and middle plans: at and past the bounds of an opening, and anywhere."""
+    small = (some_plan(rng, rng.randrange(1, 5), rng.randrange(5), rng.randrange(1, 8)) for _ in range(12))
+    lasting = (lasting_plan(rng, rng.randrange(1, 6), rng.randrange(1, 8), rng.randrange(2, 9)) for _ in range(8))
+    middle = (lasting_plan(rng, rng.randrange(8, 20), rng.randrange(8, 20), rng.randrange(5, 20)) for _ in range(6))
+    for head, row in itertools.chain(small, lasting, middle):
+        for target in (*targets_at_bounds(head, row, [rng.randint(0, head.opening)]), rng.randint(1, S)):
+            yield Ask(head, row, least(target))
 
 
 # ---- Plan bytes
@@ -289,6 +386,16 @@ def add_roundings(calls):
             calls.ask(head, row, question)
 
 
+def add_least_openings(calls, rng):
+    edges = target_edges(), bound_edges(), given_up(), not_given_up(), target_rooms(), target_faults()
+    for ask in itertools.chain(*edges, long_targets(rng)):
+        calls.ask(*ask)
+    for fill, target in itertools.product((0, 1, S, 2**31, FULL_NUMBER), (1, S, 0)):
+        calls.ask(*EXAMPLE, least(target), workspace_needed(EXAMPLE[0], SURVIVE) + 3, fill)
+    for head, row, question, _ in random_targets(rng):
+        add_random_asks(calls, rng, head, row, [question])
+
+
 def all_calls():
     calls = Calls()
     add_edges(calls)
@@ -297,6 +404,7 @@ def all_calls():
     add_claim_sums(calls, random.Random(7))
     add_openings(calls)
     add_roundings(calls)
+    add_least_openings(calls, random.Random(11))
     return calls
 
 

@@ -1,19 +1,20 @@
 #!/usr/bin/env python3
-"""Holds two programs for the reserve report against each other, or two that turn rule sheets into plan bytes.
+"""Holds two programs for the reserve report against each other, or two that turn rule sheets into plan bytes, or two that find the least opening.
 
   compare.py PROGRAM REFERENCE [COUNT]
   compare.py --sheets PROGRAM REFERENCE [COUNT]
+  compare.py --least PROGRAM REFERENCE [COUNT]
 
 Makes COUNT (100) random accepted plans or sheets of all sizes and as many damaged ones, always the same, hands each to both programs on standard
-input, and compares what they write on standard output and standard error, byte for byte. A program may be a command of several words, given as
-one. The last line is the number of differences.
+input, and compares what they write on standard output and standard error, byte for byte. For the least opening it does so with several targets,
+each a program's last argument. A program may be a command of several words, given as one. The last line is the number of differences.
 """
 import random
 import shlex
 import subprocess
 import sys
 import time
-from collections import Counter
+from collections import Counter, namedtuple
 
 from plans import changed, flipped, gapped, geometric, some_chance, split
 from rules import CLAIMS, HEAD_BITS, HEAD_BYTES, LARGEST, MONTHS, OPENING, SIZES, Head, S, bit_length, byte_length, write_bytes
@@ -152,21 +153,48 @@ def some_damaged_sheet(rng):
     return damaged_sheet(rng, some_head(rng))
 
 
+# ---- Arguments: none, or a target for the least opening
+
+TARGETS = 0, 1, S, S + 1, 2**32, 2**32 + 1, 2**64 + 1, 10**40  # the last ones are past S, whatever their last bits are
+
+
+def no_arguments(rng, reference, data):
+    return [()]
+
+
+def some_target(rng):
+    """Any, or one close to 0 or to S, where most bounds are."""
+    near = rng.randrange(2 ** rng.randrange(30))
+    return rng.choice([rng.randint(1, S), 1 + near, S - near])
+
+
+def some_targets(rng, reference, data):
+    """A random one, the bounds that the reference then gives, if any, and one more than these; some with leading zeros."""
+    target = some_target(rng)
+    answer, _ = reference.answer(data, str(target))
+    found = [int(word) for word in answer.split()[2:]]
+    for number in sorted({target, *found, *(bound + 1 for bound in found), rng.choice(TARGETS)}):
+        yield [str(number).zfill(rng.choice([0, 0, 20]))]
+
+
 # ---- The comparison
 
-# What the programs are given and what they make of it, and how it is made, accepted and damaged.
-PLANS = "plans", "reports", {"accepted": accepted, "damaged": damaged}
-SHEETS = "sheets", "plans", {"accepted": accepted_sheet, "damaged": some_damaged_sheet}
+Matter = namedtuple("Matter", "given made makers arguments")  # what programs are given and make of it; how it is made, accepted and damaged
+REPORTS = Matter("plans", "reports", {"accepted": accepted, "damaged": damaged}, no_arguments)
+OPTIONS = {
+    "--sheets": Matter("sheets", "plans", {"accepted": accepted_sheet, "damaged": some_damaged_sheet}, no_arguments),
+    "--least": Matter("plans", "openings", {"accepted": accepted, "damaged": damaged}, some_targets),
+}
 
 
 class Program:
     def __init__(self, command):
         self.command, self.seconds = command, 0.0
 
-    def answer(self, data):
+    def answer(self, data, *arguments):
         """What it writes on standard output and on standard error."""
         start = time.perf_counter()
-        ran = subprocess.run(shlex.split(self.command), input=data, capture_output=True, check=True)
+        ran = subprocess.run([*shlex.split(self.command), *arguments], input=data, capture_output=True, check=True)
         self.seconds += time.perf_counter() - start
         return ran.stdout, ran.stderr
 
@@ -177,32 +205,38 @@ def outcome(answer, made):
     return text.decode().strip() if text.startswith(b"refused ") else made
 
 
-def compare(programs, inputs, made):
-    """How often each outcome came, and the number of inputs on which the programs differ."""
-    outcomes, differences = Counter(), 0
+def calls(rng, reference, inputs, arguments):
     for data in inputs:
-        one, other = (program.answer(data) for program in programs)
+        for words in arguments(rng, reference, data):
+            yield data, *words
+
+
+def compare(programs, called, made):
+    """How often each outcome came, and the number of calls on which the programs differ."""
+    outcomes, differences = Counter(), 0
+    for data, *words in called:
+        one, other = (program.answer(data, *words) for program in programs)
         outcomes[outcome(other, made)] += 1
         if one != other:
             differences += 1
-            print(f"differs on {data.hex()}")
+            print("differs on", data.hex(), *words)
     return outcomes, differences
 
 
 def main(words):
-    given, made, makers = PLANS
-    if words[:1] == ["--sheets"]:
-        given, made, makers = SHEETS
-        words = words[1:]
+    matter = REPORTS
+    if words and words[0] in OPTIONS:
+        matter, words = OPTIONS[words[0]], words[1:]
     if len(words) not in (2, 3):
         sys.exit(__doc__)
     programs = [Program(command) for command in words[:2]]
     count = int(words[2]) if len(words) == 3 else 100
-    rng, total = random.Random(4), 0
-    for name, make in makers.items():
-        outcomes, differences = compare(programs, (make(rng) for _ in range(count)), made)
+    rng, own, total = random.Random(4), random.Random(8), 0  # the arguments have random numbers of their own
+    for name, make in matter.makers.items():
+        inputs = (make(rng) for _ in range(count))
+        outcomes, differences = compare(programs, calls(own, programs[1], inputs, matter.arguments), matter.made)
         total += differences
-        print(f"{count} {name} {given}: " + ", ".join(f"{number} {word}" for word, number in sorted(outcomes.items())))
+        print(f"{count} {name} {matter.given}: " + ", ".join(f"{number} {word}" for word, number in sorted(outcomes.items())))
     for program in programs:
         print(f"{program.command}: {program.seconds:.1f} s")
     print(f"{total} differences")

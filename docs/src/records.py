@@ -2,10 +2,11 @@
 
 The input of `vectors` is a list of records: eight words of 8 bytes, most significant byte first (kind, months, opening, sizes, number, room,
 fill, length), then what the kind asks. `row` sets the row that later records use: length numbers of 4 bytes. The four questions ask with that
-row, `number` as k or L and a workspace of `room` numbers that each hold `fill`; `fails` asks in the same way, `number` as the month. `count` asks
-for the count row. `claims` takes the claim sum over the row's weights, with the first `number` of its chances as the values that claims of size 1, 2, …
-lead to, and answers its quotient by S, what is left over and the number of products. `write` lends `room` bytes and `read` a row of `room` numbers, each holding `fill`; `read` is followed by the plan's `length`
-bytes.
+row, `number` as k or L and a workspace of `room` numbers that each hold `fill`; `fails` asks in the same way, `number` as the month, and `least`,
+`number` as the target, for the least opening and its bounds. `count` asks for the count row. `claims` takes the claim sum over the row's
+weights, with the first `number` of its chances as the values that claims of size 1, 2, … lead to, and answers its quotient by S, what is left
+over and the number of products. `write` lends `room` bytes and `read` a row of `room` numbers, each holding `fill`; `read` is followed by the
+plan's `length` bytes.
 Its output has a line for each record but `row`: the refusal's number, the numbers answered, and the lent memory after the call where there is any, which
 is the bytes of `write` in hexadecimal and otherwise a checksum.
 
@@ -19,12 +20,12 @@ lent bytes. `report` prints the reserve report of these plan bytes.
 import itertools
 import math
 
-from rules import HEAD_BYTES, LARGEST, MOST_ASKED, PLACES, S, Head, ask_checks, bounds, byte_length, claim_sum, count_row, down, failure_bounds
-from rules import failure_checks, plan_checks, plan_of, read_bytes, read_checks, refusal, report, row_length, up, workspace_needed, write_bytes
-from rules import write_checks
+from rules import HEAD_BYTES, LARGEST, MOST_ASKED, NONE, PLACES, S, Head, ask_checks, bounds, byte_length, claim_sum, count_row, down
+from rules import failure_bounds, failure_checks, least_answer, plan_checks, plan_of, read_bytes, read_checks, refusal, report, row_length, up
+from rules import workspace_needed, write_bytes, write_checks
 from sheets import made_bytes, made_plan, sheet_checks
 
-KINDS = ["row", "survive", "both", "high", "low", "count", "write", "read", "fails", "claims"]
+KINDS = ["row", "survive", "both", "high", "low", "count", "write", "read", "fails", "claims", "least"]
 FULL_NUMBER = 2**32 - 1  # the largest number that a row or a workspace can hold
 
 # The room that the program lends, as in crates/vectors/src/rooms.rt. It passes over a record that needs more.
@@ -52,6 +53,20 @@ def checksum(memory):
 def rules_of(question):
     """The checks and the answer of the call, and what both take: one of the four questions, or for `fails` the month."""
     return (failure_checks, failure_bounds, question.number) if question.word == "fails" else (ask_checks, bounds, question)
+
+
+def answer_of(head, row, question, room):
+    """The refusal's number and the numbers answered: two bounds, and for `least` the opening before them."""
+    if question.word == "least":
+        return least_answer(head, row, question.number, room)
+    checks, answer, asked = rules_of(question)
+    number = refusal(checks(head, row, asked, room))
+    return number, *((0, 0) if number else answer(plan_of(head, row), asked))
+
+
+def cleared(number):
+    """Whether the needed workspace is zero afterwards: "after an answer and after "none", the only refusal that writes"."""
+    return number in (0, NONE)
 
 
 def fitting(needed, capacity):
@@ -84,12 +99,10 @@ class Calls:
         room = needed if room is None else room
         self.use(row)
         self.record(question.word, head, question.number, fitting(room, WORKSPACE), fill)
-        checks, answer, asked = rules_of(question)
-        number = refusal(checks(head, row, asked, room))
-        low, high = (0, 0) if number else answer(plan_of(head, row), asked)
-        after = [fill] * room if number else [0] * needed + [fill] * (room - needed)
+        number, *answer = answer_of(head, row, question, room)
+        after = [0] * needed + [fill] * (room - needed) if cleared(number) else [fill] * room
         label = f"{question.word} {question.number} of {tuple(head)}, row of {len(row)}, workspace of {room} holding {fill}"
-        self.answers(label, number, low, high, checksum(after))
+        self.answers(label, number, *answer, checksum(after))
 
     def count(self, head, row):
         self.use(row)

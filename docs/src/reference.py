@@ -8,8 +8,8 @@ Written from these documents and their sources alone, not from the engine or its
   reference.py plan N U M ROW..   the plan bytes of a head and a row (chances, weights, over) on standard output
   reference.py vectors DIR        DIR/stdin and DIR/stdout of the test program over the calls
   reference.py cases              one line for each line of that stdout: what was called
-  reference.py repeat WORD K N    N times one question, or failing in month K, on the largest plan, as that program's input, to time it; a last
-                                  word may name another of the plans below
+  reference.py repeat WORD K N    N times one question, failing in month K or the least opening for the target K, on the largest plan, as that
+                                  program's input, to time it; a last word may name another of the plans below
   reference.py plans DIR          three plans as large as can be, to time: DIR/none-empty (that plan), DIR/ten-filled, DIR/no-chance
   reference.py example DIR        DIR/stdin and DIR/stdout of the reserve report: document 01's example
   reference.py reports DIR        DIR/stdin and DIR/stdout of many reserve reports, the largest included: takes minutes
@@ -18,6 +18,8 @@ Written from these documents and their sources alone, not from the engine or its
   reference.py plan-of-sheet      a rule sheet on standard input, its plan bytes on standard output or its refusal on standard error
   reference.py sheets DIR         DIR/stdin and DIR/stdout of the test program over rule sheets
   reference.py sheet-example DIR  DIR/stdin and DIR/stdout of the program that turns a rule sheet into plan bytes
+  reference.py least TARGET       plan bytes on standard input, the least opening that reaches the target and its bounds on standard output
+  reference.py least-example DIR  DIR/stdin, DIR/args and DIR/stdout of the program that finds the least opening
 """
 import math
 import struct
@@ -27,9 +29,9 @@ from pathlib import Path
 from cases import all_calls, repeated_calls, reported_bytes
 from plans import EXAMPLE_BYTES, EXAMPLE_TEXT, timed_plans
 from records import plan_list
-from rules import Head, Question, byte_length, refusal, report, write_bytes, write_checks
+from rules import Head, Question, byte_length, least_line, refusal, report, target_of, write_bytes, write_checks
 from selftest import selftest
-from sheet_cases import EXAMPLE_SHEET, all_sheet_calls
+from sheet_cases import EXAMPLE_SHEET, QUOTED_SHEET, all_sheet_calls
 from sheets import made_bytes, sheet_checks, write_sheet
 
 
@@ -90,6 +92,22 @@ def print_sheet(kind, n, u, m, *doubles):
     sys.stdout.buffer.write(struct.pack(">BBBH3d", int(kind), int(n), int(u), int(m), *map(float, doubles)))
 
 
+GOOD_ENOUGH = 1063004405  # parts of S: 0.99, rounded down
+
+
+def write_least_example(folder):
+    data = made_bytes(write_sheet(QUOTED_SHEET))
+    Path(folder, "args").write_text(f"{GOOD_ENOUGH}\n")
+    write_test(folder, data, least_line(data, GOOD_ENOUGH))
+
+
+def print_least(word, data):
+    target = target_of(word)
+    if target is None:
+        sys.exit("a target is a whole number")
+    sys.stdout.write(least_line(data, target))
+
+
 def main(words):
     match words:
         case ["selftest"]:
@@ -119,6 +137,10 @@ def main(words):
         case ["sheet-example", folder]:
             data = write_sheet(EXAMPLE_SHEET)
             write_test(folder, data, made_bytes(data))
+        case ["least", target]:
+            print_least(target, sys.stdin.buffer.read())
+        case ["least-example", folder]:
+            write_least_example(folder)
         case _:
             sys.exit(__doc__)
     return 0

@@ -1,4 +1,5 @@
-"""The rules of documents 01 and 02: plans and plan bytes, what is turned away, the month rule, the count row, failing in a month, the report.
+"""The rules of documents 01 and 02: plans and plan bytes, what is turned away, the month rule, the count row, failing in a month, the least
+opening, the report.
 
 Written from these documents and their sources alone, not from the engine or its definitions.
 """
@@ -119,6 +120,13 @@ def failure_checks(head, row, t, room):
     yield 11, room < workspace_needed(head, SURVIVE)  # "Its desk is that of survive"
 
 
+def target_checks(head, row, target, room):
+    """Those before "none", which takes the answer to tell."""
+    yield from plan_checks(head, row)
+    yield 14, target == 0 or target > S  # "in the place of 10"
+    yield 11, room < workspace_needed(head, SURVIVE)  # "Its desk is that of survive"
+
+
 def write_checks(head, row, room):
     yield from plan_checks(head, row)
     yield 11, room < byte_length(head)
@@ -135,7 +143,8 @@ def read_checks(data, room):
 
 
 def workspace_needed(head, question):
-    """The paper's desk: a row over the levels for each rounding, for a month's failure too, and for both k that times k + 1."""
+    """The paper's desk: a row over the levels for each rounding, for a month's failure and the least opening too, and for both k that times
+    k + 1."""
     rows = question.number + 1 if question.word == "both" else 1
     return 2 * (largest_level(head) + 1) * rows
 
@@ -241,6 +250,49 @@ def failure_bounds(plan, t):
 def totals(pairs):
     """The sum of the lower bounds and that of the upper ones."""
     return tuple(map(sum, zip((0, 0), *pairs)))
+
+
+# ---- The least opening that is good enough
+
+NONE = 15  # "exactly if no opening from 0 to the largest reaches the target"
+
+
+def opened(plan, opening):
+    """The same plan with another opening."""
+    return plan._replace(head=plan.head._replace(opening=opening))
+
+
+def least_opening(plan, target):
+    """Up to the plan's, which is "the largest allowed", "the smallest opening whose lower survival bound reaches the target": the refusal's
+    number, the opening and its bounds. Each opening is asked by itself."""
+    for opening in range(plan.head.opening + 1):
+        asked = opened(plan, opening)
+        lower = month_rule(asked, SURVIVE, down)
+        if lower >= target:
+            return 0, opening, lower, month_rule(asked, SURVIVE, up)
+    return NONE, 0, 0, 0
+
+
+def least_answer(head, row, target, room):
+    """The refusal's number, the opening and its bounds, or zeros; "none" comes "after 11"."""
+    number = refusal(target_checks(head, row, target, room))
+    return (number, 0, 0, 0) if number else least_opening(plan_of(head, row), target)
+
+
+def target_of(word):
+    """The number that a word of digits gives; one past S may be cut, as long as it stays past S. None of any other word."""
+    if not (word.isascii() and word.isdigit()):
+        return None
+    return int(word.lstrip("0")[: len(str(S)) + 1] or "0")
+
+
+def least_line(data, target):
+    """What the program prints of plan bytes, which may be refused before the target is looked at."""
+    number, answer = refusal(read_checks(data, math.inf)), ()
+    if not number:
+        head, row, _ = read_bytes(data)
+        number, *answer = least_answer(head, row, target, math.inf)
+    return f"refused {number}\n" if number else "opening %d %d %d\n" % tuple(answer)
 
 
 # ---- The reserve report

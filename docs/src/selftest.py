@@ -5,14 +5,16 @@ import operator
 import random
 import struct
 from fractions import Fraction
+from functools import cache
 
 from exact import carried_counts, carried_failures, carried_weight, claim_chance, count_weight, encloses, failure_weight, first_claim_both
 from exact import first_claim_survival, keeps_gap, level_kept, outcomes, question_weight
 from plans import EXAMPLE, EXAMPLE_BYTES, EXAMPLE_TEXT, WORKED, flat, gapped, geometric_plan, lasting_plan, questions, some_chance, some_plan
 from plans import split, timed_plans
 from rules import CLAIMS, LARGEST, MONTHS, MOST_ASKED, OPENING, PLACES, S, SIZES, SURVIVE, Head, Question, all_months, ask_checks, bounds
-from rules import byte_length, claim_sum, count_row, down, failure_bounds, failure_checks, failure_rule, largest_level, month_rule, plan_checks
-from rules import plan_of, read_bytes, refusal, report, row_length, totals, unrounded, up, workspace_needed, write_bytes
+from rules import byte_length, claim_sum, count_row, down, failure_bounds, failure_checks, failure_rule, largest_level, last_rows, least_answer
+from rules import least_line, month_back, month_rule, opened, plan_checks, plan_of, read_bytes, refusal, report, row_length, target_of, totals
+from rules import unrounded, up, workspace_needed, write_bytes
 from sheet_cases import DOUBLES, EXAMPLE_SHEET, HALF, INFINITE, LEVEL, LONE, NANS, NO_TAIL, ONE, RAMP, WORKED_SHEETS, accepted, brief_head
 from sheet_cases import decimal_ramps, some_share, some_sheet, telling_ramps, with_double
 from sheets import LEVEL_KIND, SHEET_BYTES, SIGN, claim_weights, finite, head_of, last_place, made_plan, parts, pattern, plan_row, plus, power
@@ -144,6 +146,131 @@ def check_listed_failures(tally, plan, listed):
         other = later_changed(plan, t)
         tally.check("failures: later months have no part", failure_bounds(other, t) == failure_bounds(plan, t), (plan, t))
         tally.check("failures: later months have no part in W", carried_failures(other)[t] == weights[t], (plan, t))
+
+
+# ---- The least opening
+
+
+def plain_lowers(plan):
+    """The lower bound of each opening from 0 to the plan's, without rows: a level's value in a month from those that it needs in the next."""
+
+    @cache
+    def value(t, s):
+        if t == plan.head.months:
+            return S
+        chance, claims = plan.chances[t], sum(weight * value(t + 1, s + 1 - x) for x, weight in enumerate(plan.weights[:s], 1))
+        return ((S - chance) * S * value(t + 1, s + 1) + chance * claims) // S**2
+
+    return [value(0, opening) for opening in range(plan.head.opening + 1)]
+
+
+def walked_lowers(plan, target):
+    """The same, by one walk for all openings; none of them where the work is given up, "in the month when no level reaches the target any more"."""
+    rows = last_rows(plan, SURVIVE)
+    for t in reversed(all_months(plan.head)):
+        rows = month_back(plan, SURVIVE, t, rows, down)
+        if max(rows[0]) < target:
+            return []
+    return rows[0]
+
+
+def first_reaching(lowers, target):
+    """The refusal's number and the opening."""
+    good = [opening for opening, lower in enumerate(lowers) if lower >= target]
+    return (0, min(good)) if good else (15, 0)
+
+
+def targets_to_try(rng, lowers):
+    """The bounds themselves, which are reached, one more, the ends and any."""
+    targets = {1, S, rng.randint(1, S), *lowers, *(lower + 1 for lower in lowers)}
+    return sorted(target for target in targets if 1 <= target <= S)
+
+
+def check_found(tally, plan, target, opening, pair):
+    """The opening that is answered, and its bounds."""
+    found, about = opened(plan, opening), (plan, target, opening)
+    weight = carried_weight(found, SURVIVE)
+    check_bounds(tally, "least opening", found, plan.head.months, weight, pair, about)
+    tally.check("least opening: bounds of survive", pair == bounds(found, SURVIVE), about)
+    tally.check("least opening: the exact chance reaches the target", weight * S >= target * S ** (2 * plan.head.months), about)
+
+
+def check_smaller(tally, plan, target, opening, lower):
+    """One that will not do: its lower bound is at most the target less one part, and its exact chance at most the gap above that."""
+    about, gap = (plan, target, opening), sum(chance > 0 for chance in plan.chances)
+    weight = carried_weight(opened(plan, opening), SURVIVE)
+    tally.check("least opening: no smaller one would do", lower < target, about)
+    tally.check("least opening: no smaller one would do, exactly", weight * S <= (target - 1 + gap) * S ** (2 * plan.head.months), about)
+
+
+def check_least_openings(tally, rng, plan):
+    lowers, row = plain_lowers(plan), [*plan.chances, *plan.weights, plan.tail]
+    for target in targets_to_try(rng, lowers):
+        number, opening, *pair = least_answer(plan.head, row, target, workspace_needed(plan.head, SURVIVE))
+        about = plan, target, number, opening
+        tally.check("least opening: by its definition", (number, opening) == first_reaching(lowers, target), about)
+        tally.check("least opening: by one walk", (number, opening) == first_reaching(walked_lowers(plan, target), target), about)
+        if number == 0:
+            check_found(tally, plan, target, opening, tuple(pair))
+        else:
+            tally.check("least opening: none", (number, opening, *pair) == (15, 0, 0, 0), about)
+        for smaller, lower in enumerate(lowers if number else lowers[:opening]):
+            check_smaller(tally, plan, target, smaller, lower)
+        if plan.head.months == 0:
+            tally.check("least opening: no months", (number, opening, *pair) == (0, 0, S, S), about)
+
+
+LEAST_OF_EXAMPLE = [  # by hand: opening at 0 the example's fund lasts with chance 3/8, at 1 with 11/16; target, room, the answer
+    (1, 8, (0, 0, 402653184, 402653184)),
+    (402653184, 8, (0, 0, 402653184, 402653184)),
+    (402653185, 8, (0, 1, 738197504, 738197504)),
+    (738197504, 9, (0, 1, 738197504, 738197504)),
+    (738197505, 8, (15, 0, 0, 0)),
+    (S, 8, (15, 0, 0, 0)),
+    *((target, room, (14, 0, 0, 0)) for target in (0, S + 1, 2**32 - 1, 2**32 + 1) for room in (0, 7, 8)),
+    *((target, room, (11, 0, 0, 0)) for target in (1, 738197504, 738197505, S) for room in (0, 7)),
+]
+
+REFUSED_PLANS = [  # each is also wrong in what comes after its number
+    (2, Head(MONTHS + 1, OPENING + 1, 0), []),
+    (3, Head(2, OPENING + 1, 0), []),
+    (4, Head(2, 3, 0), []),
+    (4, Head(2, 3, SIZES + 1), []),
+    (5, Head(2, 3, 2), [S + 1, 0, 0, 1]),
+    (7, Head(2, 3, 2), [S + 1, 0, 0, 0, 1]),
+    (8, Head(2, 3, 2), [S, 0, 0, 0, 1]),
+    (9, Head(2, 3, 2), [S, 0, S - 1, 0, 1]),
+]
+
+TARGET_WORDS = [
+    *(("0" * zeros + str(target), target) for zeros in (0, 1, 50, 5000) for target in (0, 1, 402653185, S, S + 1)),
+    *((word, None) for word in ("", " ", "+1", "-1", "1 ", "1.0", "1e3", "0x1", "1_0", "\u0661", "\u00b2")),
+]
+PAST_S = [str(2**32), str(2**32 + 1), str(2**64 + 1), f"{S}0", f"{0:05000}{S}0", "1" + "0" * 5000]
+
+LEAST_LINES = [
+    (EXAMPLE_BYTES, 402653185, "opening 1 738197504 738197504\n"),
+    (EXAMPLE_BYTES, S, "refused 15\n"),
+    (EXAMPLE_BYTES, 0, "refused 14\n"),
+    (EXAMPLE_BYTES[:2], 0, "refused 1\n"),
+    (EXAMPLE_BYTES[:-1], 0, "refused 5\n"),
+    (EXAMPLE_BYTES[:-1] + b"\1", 0, "refused 6\n"),
+]
+
+
+def check_least_numbers(tally):
+    for target, room, answer in LEAST_OF_EXAMPLE:
+        got = least_answer(*EXAMPLE, target, room)
+        tally.check("least opening of the example", got == answer, (target, room, got))
+    for (number, head, row), target, room in itertools.product(REFUSED_PLANS, (0, 1, S, S + 1), (0, math.inf)):
+        got = least_answer(head, row, target, room)
+        tally.check("least opening: plans refused", got == (number, 0, 0, 0), (head, row, target, room, got))
+    for word, target in TARGET_WORDS:
+        tally.check("least opening: words of a target", target_of(word) == target, word)
+    for word in PAST_S:
+        tally.check("least opening: words past S", target_of(word) > S, word)
+    for data, target, line in LEAST_LINES:
+        tally.check("least opening: lines", least_line(data, target) == line, (data.hex(), target))
 
 
 def check_plan(tally, plan):
@@ -333,13 +460,18 @@ def selftest():
     for weights in claim_tables(own):
         check_claim_sums(tally, own, weights)
     check_small_divisions(tally, random.Random(15))
+    check_least_numbers(tally)
+    targets = random.Random(21)
     for _ in range(300):
         head, row = some_plan(rng, rng.randrange(5), rng.randrange(6), rng.randrange(1, 5))
         tally.check("accepted", refusal(ask_checks(head, row, SURVIVE, math.inf)) == 0, (head, row))
         tally.check("bytes there and back", read_bytes(write_bytes(head, row))[:2] == (head, row), (head, row))
         check_claim_sums(tally, own, plan_of(head, row).weights)
         check_plan(tally, plan_of(head, row))
+        check_least_openings(tally, targets, plan_of(head, row))
     for u, m in ((0, 2), (3, 5), (7, 1)):
-        check_long_plan(tally, plan_of(*lasting_plan(rng, MONTHS, u, m)))
+        plan = plan_of(*lasting_plan(rng, MONTHS, u, m))
+        check_long_plan(tally, plan)
+        check_least_openings(tally, targets, plan)
     tally.print()
     return bool(tally.failed)

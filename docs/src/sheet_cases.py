@@ -38,6 +38,7 @@ RAMP = LEVEL._replace(kind=RAMP_KIND, first=decimal("0.1"), step=decimal("0.2"))
 LONE = Sheet(LEVEL_KIND, 1, 0, 3, HALF, 0, HALF)  # over is allowed whatever the sizes
 NO_TAIL = RAMP._replace(opening=30, alpha=0)  # over is not allowed, and there is none
 EXAMPLE_SHEET = Sheet(RAMP_KIND, 12, 5, 20, decimal("0.01"), decimal("0.01"), decimal("0.9"))  # source document 003: case 1 of Table 1, (3.2)
+QUOTED_SHEET = EXAMPLE_SHEET._replace(opening=60, sizes=71)  # the same with a larger opening allowed, and the sizes that over then needs
 
 # Sheets worked by hand: the bytes, the head and the row.
 WORKED_SHEETS = [

@@ -5,11 +5,11 @@ ghost use Prim.Native.Nat.{_≤_};
 ghost use lib.ListN.{length, take, drop};
 ghost use Rattle.model.specs.Limits.{max-sizes};
 ghost use Rattle.model.specs.FilledSizes.{filled-sizes};
-ghost use Rattle.claims.specs.Listing.{gapless, within};
+ghost use Rattle.claims.specs.Listing.{gapless, within, Listing};
 use model::limits;
 
 // How many sizes are filled from size 1 on before the first empty one.
-pub fn gapless_sizes(severity: &[u32]) -> usize
+fn gapless_sizes(severity: &[u32]) -> usize
     ensures { λ r. ⌜ r ≡ gapless (now (severity .entry)) ⌝ }
 {
     let mut x = 0;
@@ -22,18 +22,19 @@ pub fn gapless_sizes(severity: &[u32]) -> usize
     x
 }
 
-// The first `count` numbers are the listed sizes, the largest first.
+// The first `count` numbers are the listed sizes, the largest first; those up to `dense` are filled besides and not listed.
 pub struct FilledSizes {
     pub sizes: [usize; limits::SIZES],
     pub count: usize,
+    pub dense: usize,
 }
 
 // The filled sizes above `dense`.
-pub fn filled_above(severity: &[u32], dense: usize) -> FilledSizes
+fn filled_above(severity: &[u32], dense: usize) -> FilledSizes
     requires { ⌜ (length (now severity) ≤ max-sizes) × (dense ≤ length (now severity)) ⌝ }
     ensures listed { λ r.
         ⌜ take (r .count) (r .sizes) ++ filled-sizes (now (severity .entry)) dense ≡ filled-sizes (now (severity .entry)) (length (now (severity .entry))) ⌝ }
-    ensures sized { λ r. ⌜ r .count ≤ length (r .sizes) ⌝ }
+    ensures sized { λ r. ⌜ (r .count ≤ length (r .sizes)) × (r .dense ≡ dense) ⌝ }
 {
     let mut sizes = [0; limits::SIZES];
     let mut count = 0;
@@ -45,7 +46,21 @@ pub fn filled_above(severity: &[u32], dense: usize) -> FilledSizes
         }
         x -= 1;
     }
-    FilledSizes { sizes, count }
+    FilledSizes {
+        sizes,
+        count,
+        dense,
+    }
+}
+
+// All filled sizes of a table.
+pub fn list_sizes(severity: &[u32]) -> FilledSizes
+    requires { ⌜ length (now severity) ≤ max-sizes ⌝ }
+    ensures listed { λ r. ⌜ Listing (now (severity .entry)) (take (r .count) (r .sizes)) (r .dense) ⌝ }
+    ensures sized { λ r. ⌜ (r .count ≤ length (r .sizes)) × (r .count ≡ length (take (r .count) (r .sizes))) ⌝ }
+{
+    let dense = gapless_sizes(severity);
+    filled_above(severity, dense)
 }
 
 // From where on, at `from` or later, the listed sizes are at most `most`.

@@ -3,6 +3,8 @@ pub mod Fields
 pub mod PlanBits
 pub mod RefusalLaws
 pub mod Answered
+pub mod PlanRead
+pub mod LongInput
 pub mod RoundTrip
 pub mod Theorems
 pub mod Worked

@@ -11,8 +11,9 @@ use Rattle.model.specs.Plan.{row-length}
 use Rattle.model.specs.Format.{byte-length, bytes-of, head-of, row-of}
 use Rattle.model.specs.Refusal.{Accepted, read-refusal, write-refusal}
 use Rattle.codec.specs.Answers.{read-answer, row-after, write-answer, bytes-after}
-use Rattle.codec.proofs.RefusalLaws.{Readable, readable, accepts, row-is, written, write-room}
+use Rattle.codec.proofs.RefusalLaws.{Readable, readable, accepts, written, write-room}
 use Rattle.codec.proofs.Answered.{read-as, written-as, head-answered, head-number, length-answered, length-number, filled}
+use Rattle.codec.proofs.PlanRead.{row-left}
 use Rattle.codec.proofs.RoundTrip.{length-back, head-back, row-back, readable-back, bytes-back}
 
 -- What is written reads back the same head and row: a plan is written into `lent` bytes, and what is written is read into an `other` row.
@@ -75,9 +76,7 @@ module _
     head-is = ap (λ a. a .head) (head-answered _ (head-of bytes) none-wrong)
 
     row-read-is : row-read ≡ row-of bytes
-    row-read-is =
-        ap₂ (λ n l. take n l) (ap row-length head-is) (filled _ (row-length (head-of bytes)) (row-of bytes) lent none-wrong)
-        ∙ take-at (row-of bytes) _ (row-length (head-of bytes)) (row-is bytes)
+    row-read-is = ap (λ h. take (row-length h) (row-after bytes lent)) head-is ∙ row-left bytes lent none-wrong
 
     write-none : write-refusal (head-of bytes) (row-of bytes) (length other) ≡ 0
     write-none =

@@ -17,7 +17,7 @@ use Rattle.model.specs.Levels.{largest-level}
 use Rattle.model.specs.declared.Rounding.{Rounding}
 use Rattle.model.specs.Scale.{S}
 use Rattle.model.specs.MonthRule.{Row, month, values, rule-of, last-of, claims-of, claimed-row, all-placed, one-fewer}
-use Rattle.model.specs.Refusal.{first, head-checks, length-check, number-checks, plan-checks, plan-refusal, Accepted, rows-needed, asked-checks, month-outside, room-check, bounds-refusal}
+use Rattle.model.specs.Refusal.{first, head-checks, length-check, number-checks, plan-checks, plan-refusal, Accepted, rows-needed, asked-checks, month-outside, room-check, bounds-checks, bounds-refusal}
 use Rattle.model.proofs.Facts.{neither, not-zero, numbered, first-append, none-fits, none-fits-append, plan-numbered, plan-first}
 use Rattle.month_rule.specs.Rows.{between, after-claim-by}
 use Rattle.month_rule.specs.Shapes.{rule-by}
@@ -25,32 +25,42 @@ use Rattle.model.proofs.SumLaws.{below-or-not}
 use Rattle.month_rule.proofs.AllMonths.{Agree, values-agree}
 use Rattle.engine.specs.Questions.{shape-of}
 
--- the checks after those of the plan, and after those of what is asked
+-- the checks after those of the plan, and after that of what is asked, which has a number n above 0
 pub asked-is :
-    (h : Head) (row : List ℕ) (o : Bool) → first (asked-checks h row o) ≡ cond (eqb (plan-refusal h row) 0) (cond o 10 0) (plan-refusal h row)
+    (h : Head) (row : List ℕ) (n : ℕ) (o : Bool) → first (asked-checks h row (n, o)) ≡ cond (eqb (plan-refusal h row) 0) (cond o n 0) (plan-refusal h row)
 unfolding asked-checks first
-asked-is h row o = plan-first h row ((10, o) ∷ [])
+asked-is h row n o = plan-first h row ((n, o) ∷ [])
 
-asked-numbered : (h : Head) (row : List ℕ) (o : Bool) → numbered (asked-checks h row o) ≡ true
+-- what is asked decides where the plan is accepted
+pub asked-decides :
+    (h : Head) (row : List ℕ) (n : ℕ) (o b : Bool) → Accepted h row → o ≡ b → cond b n 0 ≡ first (asked-checks h row (n, o))
+asked-decides h row n o b accepted e = sym (asked-is h row n o ∙ rw (accepted, e))
+
+asked-numbered : (h : Head) (row : List ℕ) (n : ℕ) (o : Bool) → 0 < n → numbered (asked-checks h row (n, o)) ≡ true
 unfolding all asked-checks plan-checks head-checks length-check number-checks
-asked-numbered h row o = refl
+asked-numbered h row n o above = rw (lt-ltb 0 n above)
+
+pub bounds-numbered :
+    (h : Head) (row : List ℕ) (n : ℕ) (o : Bool) (needed room : ℕ) → 0 < n → numbered (bounds-checks h row (n, o) needed room) ≡ true
+unfolding all bounds-checks asked-checks plan-checks head-checks length-check number-checks
+bounds-numbered h row n o needed room above = rw (lt-ltb 0 n above)
 
 pub bounds-refusal-is :
-    (h : Head) (row : List ℕ) (o : Bool) (needed room : ℕ) →
-    bounds-refusal h row o needed room
-    ≡ cond (eqb (first (asked-checks h row o)) 0) (first (room-check needed room ∷ [])) (first (asked-checks h row o))
-unfolding bounds-refusal
-bounds-refusal-is h row o needed room = first-append (asked-checks h row o) (room-check needed room ∷ []) (asked-numbered h row o)
+    (h : Head) (row : List ℕ) (n : ℕ) (o : Bool) (needed room : ℕ) → 0 < n →
+    bounds-refusal h row (n, o) needed room
+    ≡ cond (eqb (first (asked-checks h row (n, o))) 0) (first (room-check needed room ∷ [])) (first (asked-checks h row (n, o)))
+unfolding bounds-refusal bounds-checks
+bounds-refusal-is h row n o needed room above = first-append (asked-checks h row (n, o)) (room-check needed room ∷ []) (asked-numbered h row n o above)
 
 -- so a call's number is that of the earlier checks, or of the workspace where none of them fits
-pub refused-early :
-    (h : Head) (row : List ℕ) (o : Bool) (needed room n : ℕ) → n ≡ first (asked-checks h row o) → (n ≡ 0 → ⊥) → n ≡ bounds-refusal h row o needed room
-refused-early h row o needed room n e ne = rw (bounds-refusal-is h row o needed room, ← e, ne-eqb n 0 ne)
+module _ (h : Head) (row : List ℕ) (n : ℕ) (o : Bool) (needed room : ℕ) (above : 0 < n) where
+  pub refused-early : (r : ℕ) → r ≡ first (asked-checks h row (n, o)) → (r ≡ 0 → ⊥) → r ≡ bounds-refusal h row (n, o) needed room
+  refused-early r e ne = rw (bounds-refusal-is h row n o needed room above, ← e, ne-eqb r 0 ne)
 
-pub refused-late :
-    (h : Head) (row : List ℕ) (o : Bool) (needed room n r : ℕ) → n ≡ first (asked-checks h row o) → n ≡ 0 → r ≡ first (room-check needed room ∷ []) →
-    r ≡ bounds-refusal h row o needed room
-refused-late h row o needed room n r e z f = rw (bounds-refusal-is h row o needed room, ← e, z) f
+  pub refused-late :
+      (early r : ℕ) → early ≡ first (asked-checks h row (n, o)) → early ≡ 0 → r ≡ first (room-check needed room ∷ []) →
+      r ≡ bounds-refusal h row (n, o) needed room
+  refused-late early r e z f = rw (bounds-refusal-is h row n o needed room above, ← e, z) f
 
 pub room-is : (needed room : ℕ) → first (room-check needed room ∷ []) ≡ cond (ltb room needed) 11 0
 unfolding first
@@ -62,17 +72,20 @@ pub record Asked (h : Head) (row : List ℕ) (o : Bool) (needed room : ℕ) : Ty
   pub inside : o ≡ false
   pub enough : needed ≤ room
 
-pub asked-inside : (h : Head) (row : List ℕ) (o : Bool) → first (asked-checks h row o) ≡ 0 → Accepted h row × (o ≡ false)
+pub asked-inside :
+    (h : Head) (row : List ℕ) (n : ℕ) (o : Bool) → 0 < n → first (asked-checks h row (n, o)) ≡ 0 → Accepted h row × (o ≡ false)
 unfolding asked-checks plan-refusal
-asked-inside h row o e =
-    let parts = none-fits-append (plan-checks h row) ((10, o) ∷ []) (plan-numbered h row) e in
-    (parts .0, none-fits 9 o [] (parts .1) .0)
+asked-inside h row zero o above e = absurd (omega arith)
+asked-inside h row (suc n) o above e =
+    let parts = none-fits-append (plan-checks h row) ((suc n, o) ∷ []) (plan-numbered h row) e in
+    (parts .0, none-fits n o [] (parts .1) .0)
 
-pub asked : (h : Head) (row : List ℕ) (o : Bool) (needed room : ℕ) → bounds-refusal h row o needed room ≡ 0 → Asked h row o needed room
-unfolding bounds-refusal
-asked h row o needed room e =
-    let parts = none-fits-append (asked-checks h row o) (room-check needed room ∷ []) (asked-numbered h row o) e in
-    let known = asked-inside h row o (parts .0) in
+pub asked :
+    (h : Head) (row : List ℕ) (n : ℕ) (o : Bool) (needed room : ℕ) → 0 < n → bounds-refusal h row (n, o) needed room ≡ 0 → Asked h row o needed room
+unfolding bounds-refusal bounds-checks
+asked h row n o needed room above e =
+    let parts = none-fits-append (asked-checks h row (n, o)) (room-check needed room ∷ []) (asked-numbered h row n o above) e in
+    let known = asked-inside h row n o above (parts .0) in
     record {
       accepted = known .0;
       inside = known .1;
@@ -91,10 +104,11 @@ unfolding month-outside
 inside-month h t above l = rw (ne-eqb t 0 (λ z. omega (arith, z)), le-ltb (h .months) t l)
 
 -- and the other way round: nothing refuses
-pub not-refused : {h : Head} {row : List ℕ} {o : Bool} {needed room : ℕ} → Asked h row o needed room → bounds-refusal h row o needed room ≡ 0
-not-refused {h} {row} {o} {needed} {room} k =
-    bounds-refusal-is h row o needed room
-    ∙ rw (asked-is h row o, k .accepted, k .inside, room-is needed room, le-ltb room needed (k .enough))
+pub not-refused :
+    {h : Head} {row : List ℕ} {o : Bool} {needed room : ℕ} (n : ℕ) → 0 < n → Asked h row o needed room → bounds-refusal h row (n, o) needed room ≡ 0
+not-refused {h} {row} {o} {needed} {room} n above k =
+    bounds-refusal-is h row n o needed room above
+    ∙ rw (asked-is h row n o, k .accepted, k .inside, room-is needed room, le-ltb room needed (k .enough))
 
 pub shape-rows : (q : Question) (width : ℕ) → shape-of q width .rows ≡ rows-needed q
 unfolding shape-of rows-needed

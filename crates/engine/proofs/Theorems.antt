@@ -63,7 +63,7 @@ module _
 
     accepted : Accepted h row
     unfolding answer
-    accepted = asked h row _ _ room (sym (number-is _ _ _) ∙ survived) .accepted
+    accepted = asked h row 10 _ _ room (omega arith) (sym (number-is _ _ _) ∙ survived) .accepted
 
     survival-is : (survival .lower ≡ lower (plan-of h row) Survive) × (survival .upper ≡ upper (plan-of h row) Survive)
     unfolding answer

@@ -15,7 +15,7 @@ use Rattle.model.specs.declared.Rounding.the-variants.{Down, Up}
 use Rattle.model.specs.Plan.{Plan, plan-of}
 use Rattle.model.specs.CountRow.{count-row, tabulate}
 use Rattle.model.specs.Bounds.{lower, upper, ruin-lower, ruin-upper}
-use Rattle.model.specs.Refusal.{ask-refusal, ruin-refusal, count-refusal, workspace-needed, ruin-workspace}
+use Rattle.model.specs.Refusal.{ask-refusal, ruin-refusal, count-refusal, workspace-needed, survival-workspace}
 
 -- the answer of a refusal
 unfoldable pub refused : ℕ → Answer
@@ -47,7 +47,7 @@ ruin-answer h t row room = bounds-answer (ruin-refusal h t row room) (ruin-lower
     p = plan-of h row
 
 abbrev pub ruin-workspace-after : Head → ℕ → List ℕ → List ℕ → List ℕ
-ruin-workspace-after h t row workspace = cleared-after (ruin-refusal h t row (length workspace)) (ruin-workspace h) workspace
+ruin-workspace-after h t row workspace = cleared-after (ruin-refusal h t row (length workspace)) (survival-workspace h) workspace
 
 -- "It comes back whole, as a row of … lower and a row of … upper bounds"
 unfoldable pub count-rows : List ℕ → CountRow

@@ -2,8 +2,8 @@
 mod answers;
 mod bounds;
 mod counts;
-mod questions;
-mod refusals;
+pub mod questions;
+pub mod refusals;
 
 use crate::answers::none_allowed;
 use crate::answers::refused;

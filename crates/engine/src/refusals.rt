@@ -6,27 +6,29 @@ use model::Head;
 use model::Question;
 ghost use mathlib.Core.Path.{_≡_};
 ghost use mathlib.Core.Bool.{false};
+ghost use Prim.Native.Nat.{_<_};
 ghost use Rattle.model.specs.Refusal.{first, asked-checks, workspace-needed, month-outside, bounds-refusal, ask-refusal, ruin-refusal};
 ghost use Rattle.model.specs.Refusal.{outside as Refusal·outside};
 
-// The checks of the plan, then 10 where what is asked of it is outside the limits.
-fn asked_refusal(head: Head, row: &[u32], outside: bool) -> u32
-    ensures { λ r. ⌜ r ≡ first (asked-checks head (now (row .entry)) outside) ⌝ }
+// The checks of the plan, then the number of what is asked of it, where that is outside the limits.
+fn asked_refusal(head: Head, row: &[u32], number: u32, outside: bool) -> u32
+    ensures { λ r. ⌜ r ≡ first (asked-checks head (now (row .entry)) (number, outside)) ⌝ }
 {
     let of_plan = plan::plan_refusal(head, row);
     if of_plan != 0 {
         return of_plan;
     }
-    if outside { 10 } else { 0 }
+    if outside { number } else { 0 }
 }
 
 // Those checks, then 11 where the workspace is shorter than the question needs, which has to be within its limits where what is asked is.
-fn bounds_refusal(ask: Ask, row: &[u32], outside: bool, room: usize) -> u32
+pub fn bounds_refusal(ask: Ask, row: &[u32], number: u32, outside: bool, room: usize) -> u32
+    requires { ⌜ 0 < number ⌝ }
     requires { ⌜ (outside ≡ false → Refusal·outside (ask .question) ≡ false) ⌝ }
-    ensures { λ r. ⌜ r ≡ bounds-refusal (ask .head) (now (row .entry)) outside (workspace-needed ask) room ⌝ }
+    ensures { λ r. ⌜ r ≡ bounds-refusal (ask .head) (now (row .entry)) (number, outside) (workspace-needed ask) room ⌝ }
 {
     let head = ask.head;
-    let refused = asked_refusal(head, row, outside);
+    let refused = asked_refusal(head, row, number, outside);
     if refused != 0 {
         return refused;
     }
@@ -37,7 +39,7 @@ pub fn ask_refusal(ask: Ask, row: &[u32], room: usize) -> u32
     ensures { λ r. ⌜ r ≡ ask-refusal ask (now (row .entry)) room ⌝ }
 {
     let question = ask.question;
-    bounds_refusal(ask, row, is_outside(question), room)
+    bounds_refusal(ask, row, 10, is_outside(question), room)
 }
 
 // Months are counted from 1.
@@ -58,6 +60,7 @@ pub fn ruin_refusal(head: Head, month: usize, row: &[u32], room: usize) -> u32
     bounds_refusal(
         Ask { head, question },
         row,
+        10,
         month_is_outside(head, month),
         room,
     )

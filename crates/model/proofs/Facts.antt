@@ -1,19 +1,21 @@
 -- Laws of the refusal table: the first check that fits in two lists one after the other, and what is known of an accepted plan.
 use Prim.Native.Nat.{ℕ, zero, suc, _+_, _<_, _≤_, zero-le}
 use mathlib.Core.Path.{_≡_, refl, sym, ap, _∙_}
-use mathlib.Core.Bool.{Bool, true, false, _&&_, _||_, cond}
+use mathlib.Core.Bool.{Bool, true, false, not, _&&_, _||_, cond}
 use mathlib.Core.List.{List, [], _∷_, _++_}
+use native.Mathlib.Nat.{le-trans}
 use native.Mathlib.Omega.{arith}
 use lib.Dec.{ltb, eqb}
 use lib.ListN.{length, getD, drop, length-drop}
 use lib.Seq.{length-take-le}
-use borrow.Author.Tests.{ltb-true, ltb-false, eqb-true, eqb-false, ne-eqb, not-false, lt-ltb}
+use borrow.Author.Tests.{ltb-true, ltb-false, eqb-true, eqb-false, ne-eqb, not-false, lt-ltb, le-ltb}
 use Rattle.model.specs.declared.Head.{Head}
 use Rattle.model.specs.Limits.{max-months, max-opening, max-sizes, max-span}
 use Rattle.model.specs.Scale.{S}
 use Rattle.model.specs.Sums.{total, any, all}
-use Rattle.model.specs.Plan.{Plan, plan-of, row-length, horizon, sizes}
+use Rattle.model.specs.Plan.{Plan, plan-of, opened, row-length, horizon, sizes}
 use Rattle.model.specs.Levels.{gain, largest-level}
+use Rattle.model.proofs.LevelLaws.{level-from}
 use Rattle.model.specs.Refusal.{first, head-checks, length-check, tail-survivable, number-checks, plan-checks, plan-refusal, HeadAccepted, Accepted}
 
 -- The numbers of checks are not 0, so that 0 says that none of them fits; of a table this computes.
@@ -52,6 +54,18 @@ none-fits-append xs ys e none = go (first xs) (sym (first-append xs ys e) ∙ no
     go : (n : ℕ) → cond (eqb n 0) (first ys) n ≡ 0 → (n ≡ 0) × (first ys ≡ 0)
     go zero e′ = (refl, e′)
     go (suc n) e′ = absurd (omega (arith, rw (ne-eqb (suc n) 0 (λ z. omega arith)) at e′))
+
+-- the number of the first check that fits is below what all numbers are below
+pub first-below : (limit : ℕ) → 0 < limit → (cs : List (ℕ × Bool)) → all (λ c. ltb (c .0) limit) cs ≡ true → first cs < limit
+unfolding first all
+first-below limit above [] e = above
+first-below limit above (c ∷ cs) e =
+    let parts = both (ltb (c .0) limit) (all (λ c. ltb (c .0) limit) cs) e in
+    go (c .1) (c .0) (ltb-true (c .0) limit (parts .0)) (first-below limit above cs (parts .1))
+  where
+    go : (fits : Bool) (n : ℕ) → n < limit → first cs < limit → cond fits n (first cs) < limit
+    go true n l later = l
+    go false n l later = later
 
 pub head-numbered : (h : Head) → numbered (head-checks h) ≡ true
 unfolding all head-checks
@@ -155,3 +169,32 @@ module _ (h : Head) (row : List ℕ) (row-is : length row ≡ row-length h) wher
   pub sizes-is : sizes (plan-of h row) ≡ h .sizes
   unfolding plan-of
   sizes-is = length-take-le _ (drop (h .months) row) (simp length-drop (omega arith))
+
+-- a test of a number that passes no larger one passes no smaller one
+not-above : (a : Bool) (m small large : ℕ) → small ≤ large → a && ltb m large ≡ false → a && ltb m small ≡ false
+not-above true m small large l e = le-ltb m small (omega (arith, ltb-false m large e))
+not-above false m small large l e = refl
+
+-- a plan of which no check fits
+none-of :
+    (h : Head) (row : List ℕ) → ltb max-months (h .months) ≡ false → ltb max-opening (h .opening) ≡ false → eqb (h .sizes) 0 || ltb max-sizes (h .sizes) ≡ false →
+    not (eqb (length row) (row-length h)) ≡ false → any (ltb S) row ≡ false → not (eqb (total (plan-of h row .severity) + plan-of h row .tail) S) ≡ false →
+    tail-survivable (plan-of h row) ≡ false → Accepted h row
+unfolding first plan-refusal plan-checks head-checks length-check number-checks
+none-of h row months opening sizes-fit long numbers weights tail = rw (months, opening, sizes-fit, long, numbers, weights, tail)
+
+-- Every opening below an accepted plan's is accepted too: the tail rule asks less of it.
+pub opened-accepted : (h : Head) (row : List ℕ) → Accepted h row → (v : ℕ) → v ≤ h .opening → Accepted (opened h v) row
+unfolding plan-refusal plan-checks head-checks length-check number-checks tail-survivable plan-of
+opened-accepted h row e v l =
+    let p = plan-of h row in
+    let parts = none-fits-append (head-checks h) (length-check h row ∷ number-checks h row) (head-numbered h) e in
+    let months = none-fits _ _ _ (parts .0) in
+    let opening = none-fits _ _ _ (months .1) in
+    let long = none-fits _ _ _ (parts .1) in
+    let numbers = none-fits _ _ _ (long .1) in
+    let weights = none-fits _ _ _ (numbers .1) in
+    none-of (opened h v) row (months .0) (le-ltb max-opening v (le-trans l (ltb-false max-opening (h .opening) (opening .0)))) (none-fits _ _ _ (opening .1) .0)
+    (long .0) (numbers .0) (weights .0)
+    (not-above (ltb 0 (p .tail)) (sizes p + 1) (largest-level v (horizon p)) (largest-level (h .opening) (horizon p)) (level-from v (h .opening) (horizon p) l .0)
+    (none-fits _ _ _ (weights .1) .0))

@@ -54,20 +54,30 @@ claim-sum-cons f F Y r =
     rest : (i : ℕ) → i < min (suc r - 1) (length F) → getD F i 0 * Y (suc (suc r) - suc (suc i)) ≡ getD F i 0 * Y (suc r - suc i)
     rest i l = ap (λ (a : ℕ). getD F i 0 * Y a) (lower i)
 
--- A relation between the claim sums over two rows, which may speak of the weights passed: it holds if it holds of nothing and of one term more.
+-- A relation between the claim sums over two rows, which may speak of the weights passed: it holds if it holds of nothing and of one term more, whose level
+-- lies below the one at which the claim comes.
+claim-sum-rel-below :
+    (R : ℕ → ℕ → ℕ → Type 0) (Y Z : Row) (top : ℕ) →
+    ((w : ℕ) → R w 0 0) →
+    ((f w a b s : ℕ) → s < top → R w a b → R (f + w) (f * Y s + a) (f * Z s + b)) →
+    (F : List ℕ) (s : ℕ) → s ≤ top → R (total F) (claim-sum F Y s) (claim-sum F Z s)
+unfolding total
+claim-sum-rel-below R Y Z top none more [] s l = rw (claim-sum-none Y s, claim-sum-none Z s) (none 0)
+claim-sum-rel-below R Y Z top none more (f ∷ F) zero l =
+    rw (claim-sum-ground (f ∷ F) Y 0 zero-le, claim-sum-ground (f ∷ F) Z 0 zero-le) (none (f + total F))
+claim-sum-rel-below R Y Z top none more (f ∷ F) (suc zero) l =
+    rw (claim-sum-ground (f ∷ F) Y 1 (le-refl 1), claim-sum-ground (f ∷ F) Z 1 (le-refl 1)) (none (f + total F))
+claim-sum-rel-below R Y Z top none more (f ∷ F) (suc (suc s)) l =
+    rw (claim-sum-cons f F Y s, claim-sum-cons f F Z s)
+    (more f (total F) (claim-sum F Y (suc s)) (claim-sum F Z (suc s)) (suc s) l (claim-sum-rel-below R Y Z top none more F (suc s) (omega arith)))
+
+-- at every level
 pub claim-sum-rel :
     (R : ℕ → ℕ → ℕ → Type 0) (Y Z : Row) →
     ((w : ℕ) → R w 0 0) →
     ((f w a b s : ℕ) → R w a b → R (f + w) (f * Y s + a) (f * Z s + b)) →
     (F : List ℕ) (s : ℕ) → R (total F) (claim-sum F Y s) (claim-sum F Z s)
-unfolding total
-claim-sum-rel R Y Z none more [] s = rw (claim-sum-none Y s, claim-sum-none Z s) (none 0)
-claim-sum-rel R Y Z none more (f ∷ F) zero = rw (claim-sum-ground (f ∷ F) Y 0 zero-le, claim-sum-ground (f ∷ F) Z 0 zero-le) (none (f + total F))
-claim-sum-rel R Y Z none more (f ∷ F) (suc zero) =
-    rw (claim-sum-ground (f ∷ F) Y 1 (le-refl 1), claim-sum-ground (f ∷ F) Z 1 (le-refl 1)) (none (f + total F))
-claim-sum-rel R Y Z none more (f ∷ F) (suc (suc s)) =
-    rw (claim-sum-cons f F Y s, claim-sum-cons f F Z s)
-    (more f (total F) (claim-sum F Y (suc s)) (claim-sum F Z (suc s)) (suc s) (claim-sum-rel R Y Z none more F (suc s)))
+claim-sum-rel R Y Z none more F s = claim-sum-rel-below R Y Z s none (λ f w a b r l. more f w a b r) F s (le-refl s)
 
 -- rows that differ by at most g at each level have claim sums that differ by at most g for each part of weight
 pub claim-sum-le :
@@ -82,14 +92,14 @@ claim-sum-le F Y Z g h =
 pub claim-sum-zero : (F : List ℕ) (s : ℕ) → claim-sum F (λ _. 0) s ≡ 0
 claim-sum-zero F s = claim-sum-rel (λ w a b. a ≡ 0) (λ _. 0) (λ _. 0) (λ w. refl) (λ f w a b i e. omega (arith, mul-zero f)) F s
 
--- values of at most B at each level have a claim sum of at most B for each part of weight
-pub claim-sum-bound : (F : List ℕ) (Y : Row) (B : ℕ) → ((s : ℕ) → Y s ≤ B) → (s : ℕ) → claim-sum F Y s ≤ total F * B
-claim-sum-bound F Y B h s =
-    omega (arith, claim-sum-le F Y (λ _. 0) B (λ i. omega (arith, h i)) s, claim-sum-zero F s)
+-- values of at most B at each level below the claim's have a claim sum of at most B for each part of weight
+pub claim-sum-bound : (F : List ℕ) (Y : Row) (B s : ℕ) → ((r : ℕ) → r < s → Y r ≤ B) → claim-sum F Y s ≤ total F * B
+claim-sum-bound F Y B s h =
+    claim-sum-rel-below (λ w a b. a ≤ w * B) Y Y s (λ w. zero-le) (λ f w a b r l m. omega (arith, mul-le-mul-left f (h r l), add-mul f w B)) F s (le-refl s)
 
 -- so that of an accepted plan's weights over values in parts of S does not pass S × S
 pub claim-sum-fits : (F : List ℕ) (Y : Row) → total F ≤ S → ((s : ℕ) → Y s ≤ S) → (s : ℕ) → claim-sum F Y s ≤ S * S
-claim-sum-fits F Y hF hY s = le-trans (claim-sum-bound F Y S hY s) (mul-le-mul-right S hF)
+claim-sum-fits F Y hF hY s = le-trans (claim-sum-bound F Y S s (λ r l. hY r)) (mul-le-mul-right S hF)
 
 module _ {rel : ℕ → ℕ → Type 0} {round : Rounding} (d : Direction rel round) where
   open Direction d using (same, then, plus, times, rounds)
@@ -144,6 +154,17 @@ mixture-le P a b B hP ha hb =
       sym (add-mul (S - P) P B),
       ap (λ (n : ℕ). n * B) (sub-add-cancel hP),
     )
+
+-- A month's value is at most the largest value that it reads: the level above of the quiet row, and the levels below that of the claimed row.
+pub month-le :
+    (round : Rounding) (F : List ℕ) → total F ≤ S → (P : ℕ) → P ≤ S → (X Y : Row) (B s : ℕ) →
+    X (s + gain) ≤ B → ((r : ℕ) → r < s + gain → Y r ≤ B) → month round F P X Y s ≤ B
+unfolding month exact-month
+month-le round F hF P hP X Y B s hX hY =
+    quotient-le round _ (S * S) B square-positive
+    (rw (mul-assoc S S B, mul-assoc (S - P) S (X (s + gain)))
+    (mixture-le P (S * X (s + gain)) (claim-sum F Y (s + gain)) (S * B) hP (mul-le-mul-left S hX)
+    (le-trans (claim-sum-bound F Y B (s + gain) hY) (mul-le-mul-right B hF))))
 
 -- A month from the claim sum's quotient A by S and what is left over, R.
 module _ (round : Rounding) (P X A R : ℕ) where

@@ -18,7 +18,7 @@ use Rattle.model.specs.declared.Question.the-variants.{Survive}
 use Rattle.model.specs.Scale.{S}
 use Rattle.model.specs.Sums.{sum, product, total}
 use Rattle.model.specs.Plan.{Plan, plan-of, horizon, sizes, nth}
-use Rattle.model.specs.Levels.{gain}
+use Rattle.model.specs.Levels.{gain, largest-level}
 use Rattle.model.specs.History.{History, claim, known, at-least, at-most}
 use Rattle.model.specs.Exact.{path-from, survives, keeps, first-ruin, weight-of, exact, exact-ruin, exact-count}
 use Rattle.model.specs.MonthRule.{Row, Month, month, exact-month, kept, claimed-row, values, value, rule-of, last-of, claims-of, opening-allowed, ruin-weight, ruin-row, carried-back}
@@ -32,7 +32,7 @@ use Rattle.model.proofs.SumLaws.{pow-two-more}
 use Rattle.model.proofs.LevelLaws.{level-later}
 use Rattle.model.proofs.Quotients.{Direction, downwards, upwards, times-right}
 use Rattle.model.proofs.Month.{scale-positive, limit, month-limited}
-use Rattle.model.proofs.Values.{kept-rel, take-fits, values-enclose, values-fit, values-gap, live-months-append, last-fits, kept-fits, months-fit}
+use Rattle.model.proofs.Values.{kept-rel, take-fits, values-enclose, values-fit, values-never-above, values-gap, live-months-append, last-fits, kept-fits, months-fit}
 use Rattle.model.proofs.Histories.{weight-is, weigh-all}
 use Rattle.model.proofs.Questions.{unrounded-is-exact}
 use Rattle.model.proofs.FirstRuin.{unrounded-ruin-is-exact, ruins-make-up, ruin-row-encloses, ruin-row-gap, ruin-row-fits, ruin-limited}
@@ -346,6 +346,18 @@ module _ (h : Head) (row : List ℕ) (accepted : Accepted h row) where
   -- "above n they are 0"
   pub counts-above : (k : ℕ) → horizon p < k → (count-lower p k ≡ 0) × (count-upper p k ≡ 0)
   counts-above k l = (count-row-above Down (p .chances) k l, count-row-above Up (p .chances) k l)
+
+  -- V_t of a question, by the claims left and the level: the row of the months after t
+  abbrev pub row-after : Rounding → Question → ℕ → ℕ → Row
+  row-after round q t = values (month round (p .severity)) (rule-of q) (last-of q) (drop t (p .chances))
+
+  -- "in the month when no level reaches the target any more": no value of an earlier month r is above the largest of month t's row, as far as the levels that the
+  -- fund can reach.
+  pub never-above :
+      (round : Rounding) (q : Question) (B r t : ℕ) → r ≤ t → ((k s : ℕ) → s ≤ largest-level (p .opening) t → row-after round q t k s ≤ B) →
+      (k s : ℕ) → s ≤ largest-level (p .opening) r → row-after round q r k s ≤ B
+  never-above round q =
+      values-never-above round (p .severity) severity-fits (rule-of q) (last-of q) (p .chances) chances-fit (p .opening)
 
   -- "No sum need pass 2^62": what month t works out at level s with k claims left, over the months that follow it
   abbrev MonthWithin : Rounding → Question → (ℕ → Row) → ℕ → List ℕ → ℕ → ℕ → Type 0

@@ -1,24 +1,26 @@
 -- Laws of the month rule: what one month keeps of its rows, the rule keeps over all months, for every question.
-use mathlib.Core.Path.{_≡_, refl, sym, fun-ext}
+use mathlib.Core.Path.{_≡_, refl, sym, _∙_, ap, ap₂, fun-ext}
 use mathlib.Core.Bool.{Bool, true, false, cond}
 use mathlib.Core.List.{List, [], _∷_, _++_}
 use mathlib.Core.Option.{Option, none, some}
-use Prim.Native.Nat.{ℕ, zero, suc, _+_, _*_, _^_, _≤_}
+use Prim.Native.Nat.{ℕ, zero, suc, _+_, _*_, _-_, _^_, _≤_, zero-le}
 use native.Mathlib.Nat.{pow-zero, add-mul, mul-assoc, one-mul, zero-mul, zero-add, le-refl}
 use native.Mathlib.Omega.{arith}
-use lib.ListN.{length, getD, take}
+use lib.ListN.{length, getD, take, drop, length-take, take-append-drop}
+use lib.Seq.{getD-drop, drop-drop}
 use Rattle.model.specs.declared.Rounding.{Rounding}
 use Rattle.model.specs.declared.Rounding.the-variants.{Down, Up}
 use Rattle.model.specs.declared.Question.{Question}
 use Rattle.model.specs.declared.Question.the-variants.{Survive, Both, High, Low}
 use Rattle.model.specs.Scale.{S}
 use Rattle.model.specs.Sums.{total, count}
-use Rattle.model.specs.Levels.{gain}
-use Rattle.model.specs.MonthRule.{Row, Month, Rule, month, exact-month, kept, claimed-row, month-back, values, all-placed, last-of}
+use Rattle.model.specs.Levels.{gain, largest-level}
+use Rattle.model.specs.MonthRule.{Row, Month, Rule, month, exact-month, kept, claimed-row, month-back, values, all-placed, any-level, rule-of, last-of}
 use Rattle.model.specs.Bounds.{live-months, month-gap}
 use Rattle.model.proofs.SumLaws.{pow-two-more, positive-none, positive-more}
+use Rattle.model.proofs.LevelLaws.{level-start, level-next, level-from, reachable}
 use Rattle.model.proofs.Quotients.{Direction}
-use Rattle.model.proofs.Month.{MonthFits, claim-sum-times, month-encloses, month-fits, month-gap-live, month-gap-idle}
+use Rattle.model.proofs.Month.{MonthFits, claim-sum-times, month-encloses, month-le, month-fits, month-gap-live, month-gap-idle}
 
 -- what is related, and relates 0 to 0, stays related where levels are taken as 0
 pub kept-rel :
@@ -110,13 +112,80 @@ values-times F q last c =
     (λ P Qs hP X Y X′ Y′ hx hy s.
     rw (← fun-ext hx, ← fun-ext hy, ← claim-sum-times F Y c (s + gain)) (simp (add-mul, mul-assoc)))
 
--- no value passes S
+pub kept-fits : {B : ℕ} (allowed : ℕ → Bool) (X : Row) (s : ℕ) → X s ≤ B → kept allowed X s ≤ B
+kept-fits {B} allowed X s h = kept-rel (λ a b. a ≤ B) zero-le allowed X X s h
+
+claimed-fits : {B : ℕ} (X : ℕ → Row) (o : Option ℕ) (s : ℕ) → ((k : ℕ) → X k s ≤ B) → claimed-row X o s ≤ B
+unfolding claimed-row
+claimed-fits X none s h = zero-le
+claimed-fits X (some k) s h = h k
+
+-- a month's values, and then those of all months, are not above the largest of the rows after them, as far as the levels that the months lead to
+month-back-below :
+    (round : Rounding) (F : List ℕ) → total F ≤ S → (q : Rule) (P : ℕ) → P ≤ S → (N : ℕ → Row) (B k s : ℕ) → ((j r : ℕ) → r ≤ s + gain → N j r ≤ B) →
+    month-back (month round F) q P N k s ≤ B
+unfolding month-back
+month-back-below round F hF q P hP N B k s h =
+    month-le round F hF P hP _ _ B s (rows k (s + gain) (le-refl (s + gain)))
+    (λ r l. claimed-fits (λ j. kept (q .allowed) (N j)) (q .after-claim k) r (λ j. rows j r (omega arith)))
+  where
+    rows : (j r : ℕ) → r ≤ s + gain → kept (q .allowed) (N j) r ≤ B
+    rows j r l = kept-fits (q .allowed) (N j) r (h j r l)
+
+pub values-below :
+    (round : Rounding) (F : List ℕ) → total F ≤ S → (q : Rule) (last : ℕ → Row) (B top : ℕ) → ((k s : ℕ) → s ≤ top → last k s ≤ B) →
+    (Ps : List ℕ) → ((i : ℕ) → getD Ps i 0 ≤ S) → (k s : ℕ) → largest-level s (length Ps) ≤ top → values (month round F) q last Ps k s ≤ B
+unfolding values
+values-below round F hF q last B top hl [] hP k s l = hl k s (omega (arith, level-start s))
+values-below round F hF q last B top hl (P ∷ Ps) hP k s l =
+    month-back-below round F hF q P (hP 0) (values (month round F) q last Ps) B k s
+    (λ j r m.
+    values-below round F hF q last B top hl Ps (λ i. hP (suc i)) j r
+    (omega (arith, level-next s (length Ps), level-from r (s + gain) (length Ps) m)))
+
+-- so none passes S
 pub values-fit :
     (round : Rounding) (F : List ℕ) → total F ≤ S → (q : Rule) (last : ℕ → Row) → ((k s : ℕ) → last k s ≤ S) →
     (Ps : List ℕ) → ((i : ℕ) → getD Ps i 0 ≤ S) → (k s : ℕ) → values (month round F) q last Ps k s ≤ S
-values-fit round F hF q last hl =
-    values-rel (λ Qs a b. a ≤ S) (month round F) (month round F) q last last (λ Qs. omega arith) hl
-    (λ P Qs hP X Y X′ Y′ hx hy s. month-fits round F hF P hP X Y hx hy s .value)
+values-fit round F hF q last hl Ps hP k s =
+    values-below round F hF q last S (largest-level s (length Ps)) (λ j r l. hl j r) Ps hP k s (le-refl _)
+
+-- the months of one list on top of those of another
+pub values-append :
+    (m : Month) (q : Rule) (last : ℕ → Row) (Ps Qs : List ℕ) → values m q last (Ps ++ Qs) ≡ values m q (values m q last Qs) Ps
+unfolding values
+values-append m q last [] Qs = refl
+values-append m q last (P ∷ Ps) Qs = ap (month-back m q P) (values-append m q last Ps Qs)
+
+-- survive does not look at the claims left
+pub claims-alike :
+    (m : Month) (Ps : List ℕ) (k : ℕ) → values m (rule-of Survive) (last-of Survive) Ps k ≡ values m (rule-of Survive) (last-of Survive) Ps 0
+unfolding values month-back rule-of last-of claimed-row
+claims-alike m [] k = refl
+claims-alike m (P ∷ Ps) k =
+    ap₂ (m P) (ap (kept any-level) (claims-alike m Ps k)) (ap (kept any-level) (claims-alike m Ps k))
+
+-- No value before a month is above the largest after a later one, as far as the levels that are reached from u.
+pub values-never-above :
+    (round : Rounding) (F : List ℕ) → total F ≤ S → (q : Rule) (last : ℕ → Row) (Ps : List ℕ) → ((i : ℕ) → getD Ps i 0 ≤ S) → (u B r t : ℕ) → r ≤ t →
+    ((k s : ℕ) → s ≤ largest-level u t → values (month round F) q last (drop t Ps) k s ≤ B) →
+    (k s : ℕ) → s ≤ largest-level u r → values (month round F) q last (drop r Ps) k s ≤ B
+values-never-above round F hF q last Ps hP u B r t l h k s m =
+    rw (months, values-append (month round F) q last between (drop t Ps))
+    (values-below round F hF q (values (month round F) q last (drop t Ps)) B (largest-level u t) h between
+    (take-fits S (t - r) (drop r Ps) (λ i. rw (getD-drop r Ps i 0) (hP (r + i)))) k s
+    (reachable u s r t (length between) m (omega (arith, length-take (t - r) (drop r Ps)))))
+  where
+    between : List ℕ
+    between = take (t - r) (drop r Ps)
+
+    later : r + (t - r) ≡ t
+    later = omega arith
+
+    months : drop r Ps ≡ between ++ drop t Ps
+    months =
+        sym (take-append-drop (t - r) (drop r Ps))
+        ∙ ap (λ (Qs : List ℕ). between ++ Qs) (drop-drop (t - r) r Ps ∙ ap (λ (n : ℕ). drop n Ps) later)
 
 pub live-months-live : (P : ℕ) (Ps : List ℕ) → live-months (suc P ∷ Ps) ≡ 1 + live-months Ps
 unfolding live-months
@@ -157,14 +226,6 @@ last-fits (Both j) zero s = le-refl S
 last-fits (Both j) (suc k) s = omega arith
 last-fits (High L) k s = le-refl S
 last-fits (Low L) k s = le-refl S
-
-pub kept-fits : (allowed : ℕ → Bool) (X : Row) (s : ℕ) → X s ≤ S → kept allowed X s ≤ S
-kept-fits allowed X s h = kept-rel (λ a b. a ≤ S) (omega arith) allowed X X s h
-
-claimed-fits : (X : ℕ → Row) (o : Option ℕ) (s : ℕ) → ((k : ℕ) → X k s ≤ S) → claimed-row X o s ≤ S
-unfolding claimed-row
-claimed-fits X none s h = omega arith
-claimed-fits X (some k) s h = h k
 
 -- what a month of the rule works out at a level, over the rows of the months that follow it
 pub months-fit :

@@ -36,3 +36,7 @@ plan-of h row =
       severity = take (h .sizes) (drop (h .months) row);
       tail = getD row (h .months + h .sizes) 0;
     }
+
+-- the same head with another opening
+abbrev pub opened : Head → ℕ → Head
+opened h v = record { months = h .months; opening = v; sizes = h .sizes }

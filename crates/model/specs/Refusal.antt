@@ -88,24 +88,28 @@ plan-refusal h row = first (plan-checks h row)
 abbrev pub Accepted : Head → List ℕ → Type 0
 Accepted h row = plan-refusal h row ≡ 0
 
--- the checks of a plan, and of whether what is asked of it is outside the limits
-unfoldable pub asked-checks : Head → List ℕ → Bool → List (ℕ × Bool)
-asked-checks h row is-outside = plan-checks h row ++ (10, is-outside) ∷ []
+-- the checks of a plan, then that of what is asked of it
+unfoldable pub asked-checks : Head → List ℕ → ℕ × Bool → List (ℕ × Bool)
+asked-checks h row asked = plan-checks h row ++ asked ∷ []
 
 -- A call that answers two bounds: these checks, then that of the workspace's length against what the call needs
-unfoldable pub bounds-refusal : Head → List ℕ → Bool → ℕ → ℕ → ℕ
-bounds-refusal h row is-outside needed room = first (asked-checks h row is-outside ++ room-check needed room ∷ [])
+unfoldable pub bounds-checks : Head → List ℕ → ℕ × Bool → ℕ → ℕ → List (ℕ × Bool)
+bounds-checks h row asked needed room = asked-checks h row asked ++ room-check needed room ∷ []
+
+unfoldable pub bounds-refusal : Head → List ℕ → ℕ × Bool → ℕ → ℕ → ℕ
+bounds-refusal h row asked needed room = first (bounds-checks h row asked needed room)
 
 -- Asking: the head, the row, the question, and the workspace's length
 abbrev pub ask-refusal : Ask → List ℕ → ℕ → ℕ
-ask-refusal a row room = bounds-refusal (a .head) row (outside (a .question)) (workspace-needed a) room
+ask-refusal a row room = bounds-refusal (a .head) row (10, outside (a .question)) (workspace-needed a) room
 
--- Ruin in a month: "Its desk is that of survive"
-abbrev pub ruin-workspace : Head → ℕ
-ruin-workspace h = workspace-needed (record { head = h; question = Survive })
+-- the workspace of survive, which calls of their own need as well: "Its desk is that of survive"
+abbrev pub survival-workspace : Head → ℕ
+survival-workspace h = workspace-needed (record { head = h; question = Survive })
 
+-- Ruin in a month
 abbrev pub ruin-refusal : Head → ℕ → List ℕ → ℕ → ℕ
-ruin-refusal h t row room = bounds-refusal h row (month-outside h t) (ruin-workspace h) room
+ruin-refusal h t row room = bounds-refusal h row (10, month-outside h t) (survival-workspace h) room
 
 -- The count row: the head and the row, and no room
 abbrev pub count-refusal : Head → List ℕ → ℕ

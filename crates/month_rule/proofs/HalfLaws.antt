@@ -42,7 +42,7 @@ module _ (xs front back : List ℕ) (half : ℕ) (whole : length xs ≡ 2 * half
       rw (drop-at front (drop half xs) half front-count)
       (take-all (length between-calls - half) (drop half xs) (omega (arith, still-whole, length-drop half xs)))
 
-  after-both : putMid half (length between-calls - half) between-calls back ≡ front ++ back
+  pub after-both : putMid half (length between-calls - half) between-calls back ≡ front ++ back
   after-both =
       let rest : postOf half (length between-calls - half) between-calls ≡ [] =
       drop-of-length-le (drop half between-calls) {i = length between-calls - half} (omega (arith, still-whole, length-drop half between-calls)) in

@@ -13,8 +13,7 @@ ghost use Rattle.month_rule.specs.Shapes.{rows-size, values-in, HalvesIn
 use crate::months::all_months_back;
 use crate::rows::Shape;
 use crate::rows::fill;
-use claims::sizes::filled_above;
-use claims::sizes::gapless_sizes;
+use claims::sizes::list_sizes;
 use model::Rounding;
 
 // A lower and an upper bound in parts of S.
@@ -109,8 +108,7 @@ pub fn halves_back(
     ensures upper { λ _.
         ⌜ TakenBack Up (now (severity .entry)) shape opening (now (chances .entry)) (drop (rows-size shape) (now (halves .entry))) (drop (rows-size shape) (now (halves .exit))) ⌝ }
 {
-    let dense = gapless_sizes(severity);
-    let filled = filled_above(severity, dense);
+    let filled = list_sizes(severity);
     let sizes = filled.sizes;
     let count = filled.count;
     listed_halves_back(
@@ -120,7 +118,7 @@ pub fn halves_back(
         chances,
         severity,
         &sizes[..count],
-        dense,
+        filled.dense,
     );
 }
 

@@ -36,6 +36,14 @@ pub fn fill(part: &mut [u32], value: u32)
     }
 }
 
+// A row's value at a level, where place 0 holds the level `top`.
+pub fn value_at(row: &[u32], top: usize, level: usize) -> u32
+    requires { ⌜ (level ≤ top) × (top < length (now row)) ⌝ }
+    ensures { λ r. ⌜ r ≡ from-top top (now (row .entry)) level ⌝ }
+{
+    row[top - level]
+}
+
 // The row at index `quiet` goes back one month: its first `live` places, from level live - 1 down to 0. After a claim the row at index `claimed` is
 // read, which lies no earlier; place 0 held the level `top`, and no claim leads to level 0, at place `top`. As the levels fall, the largest sizes leave the
 // range for good.

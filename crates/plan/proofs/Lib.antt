@@ -1,3 +1,3 @@
 -- What the proofs of more than one function use.
-mod Rows
+pub mod Rows
 pub mod Checks

@@ -2,7 +2,7 @@
 use Prim.Native.Nat.{ℕ, _+_, _*_, _≤_}
 use mathlib.Core.Path.{_≡_}
 use mathlib.Core.Bool.{cond}
-use mathlib.Core.List.{List, [], _∷_, _++_}
+use mathlib.Core.List.{List, _++_}
 use lib.Dec.{eqb}
 use lib.ListN.{length}
 use Rattle.model.specs.declared.Head.{Head}
@@ -11,8 +11,7 @@ use Rattle.model.specs.Limits.{max-months, row-room, workspace-room}
 use Rattle.model.specs.Plan.{Plan, plan-of}
 use Rattle.model.specs.Format.{head-of, row-of}
 use Rattle.model.specs.Refusal.{read-refusal}
-use Rattle.text.specs.Text.{ascii, line}
-use Rattle.report_lines.specs.Lines.{head-line, claims-lines, group-lines, ruin-lines, head-room, line-room, most-lines}
+use Rattle.report_lines.specs.Lines.{head-line, claims-lines, group-lines, ruin-lines, refused-line, head-room, line-room, most-lines}
 
 -- the report of an accepted plan
 unfoldable pub plan-report : Head → List ℕ → List ℕ
@@ -40,10 +39,6 @@ pub record ReportRoom (text row workspace : List ℕ) : Type 0 where
   pub of-text : text-room ≤ length text
   pub of-row : row-room ≡ length row
   pub of-workspace : workspace-room ≤ length workspace
-
--- "A refused plan prints `refused ` and the number."
-abbrev pub refused-line : ℕ → List ℕ
-refused-line number = line (ascii "refused") (number ∷ [])
 
 unfoldable pub report-of : List ℕ → List ℕ
 report-of bytes =

@@ -7,8 +7,8 @@ use plan::lengths::row_length;
 use report_lines::groups::put_counts;
 use report_lines::groups::put_group;
 use report_lines::lines::put_head;
+use report_lines::lines::put_refused;
 use report_lines::ruins::put_ruins;
-use text::put_line;
 ghost use mathlib.Core.Path.{_≡_};
 ghost use Prim.Native.Nat.{_≤_};
 ghost use mathlib.Core.List.{_++_};
@@ -18,7 +18,7 @@ ghost use Rattle.model.specs.Plan.{row-length};
 ghost use Rattle.codec.specs.Answers.{row-after};
 ghost use Rattle.text.specs.Text.{Appended};
 ghost use Rattle.report_lines.specs.Asking.{Answerable, Cleared};
-ghost use Rattle.report.specs.Report.{text-room, refused-line, plan-report, ReportRoom, report-of};
+ghost use Rattle.report.specs.Report.{text-room, plan-report, ReportRoom, report-of};
 
 // Room for every report: the proof of `report` fails where it is less than `text-room`.
 pub const TEXT: usize = 65536;
@@ -52,16 +52,9 @@ fn put_report(text: &mut [u8], bytes: &[u8], row: &mut [u32], workspace: &mut [u
     let answer = codec::read(bytes, row);
     let refusal = answer.refusal;
     if refusal != 0 {
-        return put_refused(text, refusal);
+        return put_refused(text, 0, refusal);
     }
     put_accepted(text, answer.head, row, workspace)
-}
-
-fn put_refused(text: &mut [u8], refusal: u32) -> usize
-    requires { ⌜ text-room ≤ length (now text) ⌝ }
-    ensures { λ r. ⌜ Appended (now (text .entry)) 0 (refused-line refusal) (now (text .exit)) r ⌝ }
-{
-    put_line(text, 0, b"refused", &[refusal as u64])
 }
 
 // The report of an accepted plan, whose row is the first part of the lent one.

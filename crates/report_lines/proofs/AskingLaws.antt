@@ -14,7 +14,7 @@ use Rattle.model.specs.declared.Question.the-variants.{Survive}
 use Rattle.model.specs.Limits.{workspace-room}
 use Rattle.model.specs.Plan.{plan-of}
 use Rattle.model.specs.Bounds.{lower, upper, ruin-lower, ruin-upper}
-use Rattle.model.specs.Refusal.{outside, month-outside, workspace-needed, ruin-workspace, bounds-refusal}
+use Rattle.model.specs.Refusal.{outside, month-outside, workspace-needed, survival-workspace, bounds-refusal}
 use Rattle.model.proofs.Facts.{accepted-head}
 use Rattle.model.proofs.Rooms.{workspace-fits}
 use Rattle.engine.specs.Answers.{bounds-answer, cleared-after, answer, workspace-after, ruin-answer, ruin-workspace-after}
@@ -52,14 +52,14 @@ answerable-still a p = record { accepted = a .accepted; room = omega (arith, cle
 
 -- a call that answers bounds, within the limits and with a workspace that no question passes
 module _ {h : Head} {row ws : List ℕ} (a : Answerable h row ws) (o : Bool) (within : o ≡ false) (needed : ℕ) (fits : needed ≤ workspace-room) where
-  nothing-refuses : bounds-refusal h row o needed (length ws) ≡ 0
-  nothing-refuses = not-refused (record { accepted = a .accepted; inside = within; enough = omega (arith, fits, a .room) })
+  nothing-refuses : bounds-refusal h row (10, o) needed (length ws) ≡ 0
+  nothing-refuses = not-refused 10 (omega arith) (record { accepted = a .accepted; inside = within; enough = omega (arith, fits, a .room) })
 
-  given : (low high : ℕ) → bounds-answer (bounds-refusal h row o needed (length ws)) low high ≡ record { refusal = 0; lower = low; upper = high }
+  given : (low high : ℕ) → bounds-answer (bounds-refusal h row (10, o) needed (length ws)) low high ≡ record { refusal = 0; lower = low; upper = high }
   unfolding bounds-answer
   given low high = rw nothing-refuses
 
-  leaves : cleared-after (bounds-refusal h row o needed (length ws)) needed ws ≡ zero-first needed ws
+  leaves : cleared-after (bounds-refusal h row (10, o) needed (length ws)) needed ws ≡ zero-first needed ws
   unfolding cleared-after
   leaves = rw nothing-refuses
 
@@ -89,10 +89,10 @@ survive-inside = refl
 module _ {h : Head} {row ws : List ℕ} (a : Answerable h row ws) (t : ℕ) (within : month-outside h t ≡ false) where
   pub ruined : ruin-answer h t row (length ws) ≡ record { refusal = 0; lower = ruin-lower (plan-of h row) t; upper = ruin-upper (plan-of h row) t }
   unfolding ruin-answer
-  ruined = given a (month-outside h t) within (ruin-workspace h) (needed-fits a Survive survive-inside) _ _
+  ruined = given a (month-outside h t) within (survival-workspace h) (needed-fits a Survive survive-inside) _ _
 
   pub ruined-leaves : ruin-workspace-after h t row ws ≡ workspace-left h Survive ws
-  ruined-leaves = leaves a (month-outside h t) within (ruin-workspace h) (needed-fits a Survive survive-inside)
+  ruined-leaves = leaves a (month-outside h t) within (survival-workspace h) (needed-fits a Survive survive-inside)
 
   pub ruined-clears : {ws′ : List ℕ} → ws′ ≡ workspace-left h Survive ws → Cleared ws ws′
   ruined-clears e = asked-clears a Survive survive-inside e

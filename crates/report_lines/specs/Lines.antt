@@ -105,6 +105,10 @@ ruin-all-line low high = line (ascii "fails all") (low ∷ high ∷ [])
 unfoldable pub ruin-lines : Plan → List ℕ
 ruin-lines p = joined (horizon p) (ruin-line-of p) ++ ruin-all-line (ruin-lowers p) (ruin-uppers p)
 
+-- "A refused plan prints `refused ` and the number."
+abbrev pub refused-line : ℕ → List ℕ
+refused-line number = line (ascii "refused") (number ∷ [])
+
 -- both bounds of ruin in a month, in one struct
 abbrev pub ruin-bounds-of : Plan → ℕ → Bounds
 ruin-bounds-of p t = record { lower = ruin-lower p t; upper = ruin-upper p t }

@@ -7,7 +7,7 @@ ghost use Rattle.model.specs.Plan.{plan-of};
 ghost use Rattle.model.specs.Refusal.{outside};
 ghost use Rattle.text.specs.Text.{Appended};
 ghost use Rattle.report_lines.specs.Asking.{Answerable, workspace-left};
-ghost use Rattle.report_lines.specs.Lines.{head-line, head-room, bounds-line, question-line, numbered-line, line-room, number-room};
+ghost use Rattle.report_lines.specs.Lines.{head-line, head-room, bounds-line, question-line, numbered-line, refused-line, line-room, number-room};
 use crate::answers;
 use model::Head;
 use model::Question;
@@ -71,4 +71,12 @@ pub fn put_numbered(
     ensures { λ r. ⌜ Appended (now (text .entry)) at (numbered-line (now (word .entry)) number lower upper) (now (text .exit)) r ⌝ }
 {
     put_line(text, at, word, &[number as u64, lower, upper])
+}
+
+// The line of a refused plan, in the place of its report or its quote.
+pub fn put_refused(text: &mut [u8], at: usize, refusal: u32) -> usize
+    requires { ⌜ at + line-room ≤ length (now text) ⌝ }
+    ensures { λ r. ⌜ Appended (now (text .entry)) at (refused-line refusal) (now (text .exit)) r ⌝ }
+{
+    put_line(text, at, b"refused", &[refusal as u64])
 }

@@ -9,7 +9,7 @@ use native.Mathlib.Nat.{pow-suc, eq-or-lt-of-le, zero-add, zero-mul, suc-mul, mu
 use mathlib.Core.Logic.{⊎-elim}
 use lib.Dec.{ltb}
 use lib.ListN.{length, getD, take, drop, set, take-append-drop, length-append, length-set}
-use lib.Seq.{take-length, take-suc, take-suc-set, drop-drop, drop-set-lt}
+use lib.Seq.{take-length, length-take-le, take-suc, take-suc-set, drop-drop, drop-set-lt}
 use borrow.Author.Tests.{lt-ltb, le-ltb}
 use Rattle.text.specs.Text.{last-digit, digits, decimal, fields, joined, entry, line, Appended}
 
@@ -27,11 +27,17 @@ appended-more {b₀} {b₁} {b₂} {t₁} {t₂} {a₀} {a₁} p q =
       rest = q .rest ∙ (rw (q .ends, ← drop-drop (length t₂) a₁ b₁, ← drop-drop (length t₂) a₁ b₀, p .rest));
     }
 
--- appended to nothing: the whole buffer
-pub appended-whole : {b b′ t : List ℕ} {end : ℕ} → Appended b 0 t b′ end → (end ≡ length t) × (b′ ≡ t ++ drop end b)
+-- appended to nothing: the whole buffer, of which the text is the first part
+pub appended-whole :
+    {b b′ t : List ℕ} {end : ℕ}
+    → Appended b 0 t b′ end
+    → (end ≡ length t) × ((b′ ≡ t ++ drop end b) × ((end ≤ length b′) × (end ≡ length (take end b′))))
 appended-whole {b} {b′} {t} {end} p = (
   p .ends ∙ zero-add (length t),
-  sym (take-append-drop end b′) ∙ ap₂ (λ (x y : List ℕ). x ++ y) (p .holds) (p .rest),
+  (
+    sym (take-append-drop end b′) ∙ ap₂ (λ (x y : List ℕ). x ++ y) (p .holds) (p .rest),
+    (p .inside, sym (length-take-le end b′ (p .inside))),
+  ),
 )
 
 -- one byte

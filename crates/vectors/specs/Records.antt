@@ -13,7 +13,7 @@ word-at bytes at = big-endian (take 8 (drop at bytes))
 abbrev pub number-at : List ℕ → ℕ → ℕ
 number-at bytes at = big-endian (take 4 (drop at bytes))
 
--- the words in their order: kind, head, number, room, fill, length; of the kind and the fill, the last byte or the last four
+-- the words in their order: kind, head, number, room, fill, length; of the kind and the fill, the last byte or the last four; a target is the last four of the number
 unfoldable pub record-of : List ℕ → Record
 record-of bytes =
     record {
@@ -21,6 +21,7 @@ record-of bytes =
       head =
           record { months = word-at bytes 8; opening = word-at bytes 16; sizes = word-at bytes 24 };
       number = word-at bytes 32;
+      target = number-at bytes 36;
       room = word-at bytes 40;
       fill = number-at bytes 52;
       «fill_byte» = getD bytes 55 0;
@@ -34,6 +35,7 @@ ended r =
       kind = 255;
       head = r .head;
       number = r .number;
+      target = r .target;
       room = r .room;
       fill = r .fill;
       «fill_byte» = r .«fill_byte»;

@@ -46,13 +46,15 @@ fn workspace(fill: u32) -> [u32; rooms::WORKSPACE]
 fn call_in(record: Record, row: &[u32], workspace: &mut [u32]) {
     let kind = record.kind;
     let number = record.number;
+    let target = record.target;
     let head = record.head;
     match kind {
         1 => ask(head, Question::Survive, row, workspace),
         2 => ask(head, Question::Both(number), row, workspace),
         3 => ask(head, Question::High(number), row, workspace),
         4 => ask(head, Question::Low(number), row, workspace),
-        _ => fails(head, number, row, workspace),
+        8 => fails(head, number, row, workspace),
+        _ => least(head, target, row, workspace),
     }
 }
 
@@ -64,6 +66,16 @@ fn ask(head: Head, question: Question, row: &[u32], workspace: &mut [u32]) {
 fn fails(head: Head, month: usize, row: &[u32], workspace: &mut [u32]) {
     let answer = engine::ruin_in_month(head, month, row, workspace);
     bounds(answer, workspace);
+}
+
+fn least(head: Head, target: u32, row: &[u32], workspace: &mut [u32]) {
+    let answer = opening::least(head, row, target, workspace);
+    text::first(answer.refusal as u64);
+    text::next(answer.opening as u64);
+    text::next(answer.lower as u64);
+    text::next(answer.upper as u64);
+    text::memory(workspace);
+    text::end();
 }
 
 // The line of a call that has two bounds.

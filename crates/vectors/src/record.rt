@@ -9,7 +9,7 @@ use model::Head;
 use numbers::big_endian;
 
 // The last kind; `next` gives a larger one at the end of the input.
-pub const LAST: u8 = 9;
+pub const LAST: u8 = 10;
 
 const END: u8 = 255;
 
@@ -17,6 +17,7 @@ pub struct Record {
     pub kind: u8,
     pub head: Head,
     pub number: usize,
+    pub target: u32,
     pub room: usize,
     pub fill: u32,
     pub fill_byte: u8,
@@ -48,6 +49,7 @@ fn decode(words: &[u8; 64]) -> Record
             sizes: word(words, 24),
         },
         number: word(words, 32),
+        target: number(words, 36),
         room: word(words, 40),
         fill: number(words, 52),
         fill_byte: words[55],

@@ -3,9 +3,8 @@ ghost use Rattle.model.specs.Refusal.{Accepted};
 ghost use Rattle.claims.specs.Listing.{Listing};
 ghost use Rattle.month_rule.specs.Rows.{PlanTerms};
 use crate::text;
-use claims::sizes::filled_above;
 use claims::sizes::first_within;
-use claims::sizes::gapless_sizes;
+use claims::sizes::list_sizes;
 use claims::sum::claim_sum;
 use model::Head;
 use numbers::lesser;
@@ -32,11 +31,10 @@ fn add(head: Head, count: usize, row: &[u32])
 fn list(severity: &[u32], after: &[u32])
     requires { ⌜ PlanTerms (now severity) (now after) ⌝ }
 {
-    let dense = gapless_sizes(severity);
-    let filled = filled_above(severity, dense);
+    let filled = list_sizes(severity);
     let sizes = filled.sizes;
     let count = filled.count;
-    sum(severity, &sizes[..count], dense, after);
+    sum(severity, &sizes[..count], filled.dense, after);
 }
 
 fn sum(severity: &[u32], sizes: &[usize], dense: usize, after: &[u32])

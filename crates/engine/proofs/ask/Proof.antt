@@ -50,7 +50,7 @@ known :
     Asked (a .ask .head) (a .row .now) (outside (a .ask .question)) (workspace-needed (a .ask)) (length (a .workspace .now))
 known c =
     let a = start (c .before) .args in
-    asked (a .ask .head) (a .row .now) (outside (a .ask .question)) (workspace-needed (a .ask)) (length (a .workspace .now))
+    asked (a .ask .head) (a .row .now) 10 (outside (a .ask .question)) (workspace-needed (a .ask)) (length (a .workspace .now)) (omega arith)
     (sym (c .before .ask-refusal .ensures) ∙ c .if1 .left)
 
 opening-allowed-requires : tie.Need-opening-allowed-requires

@@ -10,7 +10,7 @@ use Rattle.model.specs.declared.Rounding.the-variants.{Down, Up}
 use Rattle.model.specs.Plan.{plan-of}
 use Rattle.model.specs.Levels.{row-levels}
 use Rattle.model.specs.Bounds.{ruin-bound}
-use Rattle.model.specs.Refusal.{outside, month-outside, ruin-workspace, ruin-refusal}
+use Rattle.model.specs.Refusal.{outside, month-outside, survival-workspace, ruin-refusal}
 use Rattle.model.proofs.Facts.{Facts, facts, accepted-head, horizon-is}
 use Rattle.model.proofs.Theorems.{ruin-enclosure}
 use Rattle.month_rule.specs.Shapes.{rows-size}
@@ -39,15 +39,15 @@ returns c =
     let checked = c .before .before in
     let a = start checked .args in
     let n = checked .ruin-refusal in
-    refused-out (c .refused .result) (n .result) _ (ruin-workspace (a .head)) _ _ (a .workspace .now) (c .refused .ensures) (n .ensures) (c .before .if1 .taken)
+    refused-out (c .refused .result) (n .result) _ (survival-workspace (a .head)) _ _ (a .workspace .now) (c .refused .ensures) (n .ensures) (c .before .if1 .taken)
 
 known :
     (c : tie.Else1) →
     let a = start (c .before) .args in
-    Asked (a .head) (a .row .now) (month-outside (a .head) (a .month)) (ruin-workspace (a .head)) (length (a .workspace .now))
+    Asked (a .head) (a .row .now) (month-outside (a .head) (a .month)) (survival-workspace (a .head)) (length (a .workspace .now))
 known c =
     let a = start (c .before) .args in
-    asked (a .head) (a .row .now) (month-outside (a .head) (a .month)) (ruin-workspace (a .head)) (length (a .workspace .now))
+    asked (a .head) (a .row .now) 10 (month-outside (a .head) (a .month)) (survival-workspace (a .head)) (length (a .workspace .now)) (omega arith)
     (sym (c .before .ruin-refusal .ensures) ∙ c .if1 .left)
 
 -- the month is one of the plan's, which the row has
@@ -83,7 +83,7 @@ shared-slice-read-t13 c = omega (arith, inside (answered (c .before)), fits (ans
 width-is : (c : tie.After-shape-of) → let a = of-shape c .args in c .shape-of .result .width ≡ row-levels (a .head .opening) (a .head .months)
 width-is c = ap (λ s. s .width) (c .shape-of .ensures) ∙ shape-width Survive (c .before .row-levels .result) ∙ c .before .row-levels .ensures
 
-needed-is : (c : tie.After-shape-of) → 2 * rows-size (c .shape-of .result) ≡ ruin-workspace (of-shape c .args .head)
+needed-is : (c : tie.After-shape-of) → 2 * rows-size (c .shape-of .result) ≡ survival-workspace (of-shape c .args .head)
 needed-is c =
     let width = c .before .row-levels in
     ap (λ s. 2 * rows-size s) (c .shape-of .ensures)
@@ -132,7 +132,7 @@ returns-2 c =
     let a = of-shape at-shape .args in
     let h = a .head in
     let row = a .row .now in
-    answered-out (call .result) _ (2 * rows-size (at-shape .shape-of .result)) (ruin-workspace h) (a .workspace .now) _
+    answered-out (call .result) _ (2 * rows-size (at-shape .shape-of .result)) (survival-workspace h) (a .workspace .now) _
     (sym (else1 .before .ruin-refusal .ensures) ∙ else1 .if1 .left) (call .ensures .0) (bound-of at-shape Down) (bound-of at-shape Up) (call .ensures .1)
     (needed-is at-shape)
     (ruin-enclosure h row (known else1 .accepted) (a .month) (inside else1 .0) (rw (horizon-is h row (fits else1 .row-is)) (inside else1 .1)))

@@ -1,16 +1,12 @@
 -- `report::put_report` meets its contract, from what reading answers and leaves in the row. Assumes nothing.
-use mathlib.Core.Path.{_≡_, sym, ap, _∙_}
+use mathlib.Core.Path.{_≡_, _∙_}
 use mathlib.Core.List.{List}
 use Prim.Native.Nat.{ℕ}
-use lib.ListN.{length, take}
 use Rattle.model.specs.Limits.{row-room}
-use Rattle.model.specs.Plan.{row-length}
-use Rattle.model.specs.Format.{head-of, row-of}
 use Rattle.model.specs.Refusal.{read-refusal}
-use Rattle.codec.proofs.Answered.{head-number, head-answered}
-use Rattle.codec.proofs.RefusalLaws.{readable}
+use Rattle.codec.proofs.PlanRead.{PlanRead, read-number, plan-read}
 use Rattle.report_lines.proofs.AskingLaws.{cleared-none}
-use Rattle.report.proofs.Laws.{report-refused, report-accepted, row-read}
+use Rattle.report.proofs.Laws.{report-refused, report-accepted}
 use borrow.Author.Needs.{needs}
 use Rattle.report.proofs.put_report.Statement.{statement}
 use Rattle.report.proofs.put_report.Tie as tie
@@ -32,28 +28,17 @@ bytes c = start (c .before) .args .bytes .now
 abbrev row : tie.After-read → List ℕ
 row c = start (c .before) .args .row .now
 
--- the number that reading answers
+-- the number that reading answers, and the plan that it reads where nothing is refused
 number : (c : tie.After-read) → c .read .result .refusal ≡ read-refusal (bytes c) row-room
-number c =
-    ap (λ a. a .refusal) (c .read .ensures .0) ∙ head-number _ _ ∙ ap (read-refusal (bytes c)) (sym (start (c .before) .pre .of-row))
+number c = read-number _ (row c) (start (c .before) .pre .of-row) (c .read .ensures .0)
 
--- where nothing is refused, the head and the row that reading leaves
-module _ (c : tie.Else1) where
-  abbrev at-read : tie.After-read
-  at-read = read (c .before)
+abbrev at-read : tie.Else1 → tie.After-read
+at-read c = read (c .before)
 
-  none : read-refusal (bytes at-read) row-room ≡ 0
-  none = sym (number at-read) ∙ c .if1 .left
-
-  none-here : read-refusal (bytes at-read) (length (row at-read)) ≡ 0
-  none-here = ap (read-refusal (bytes at-read)) (sym (start (at-read .before) .pre .of-row)) ∙ none
-
-  head-read : at-read .read .result .head ≡ head-of (bytes at-read)
-  head-read = ap (λ a. a .head) (at-read .read .ensures .0 ∙ head-answered _ _ none-here)
-
-  row-left : take (row-length (head-of (bytes at-read))) (at-read .read .last .1 .0) ≡ row-of (bytes at-read)
-  row-left =
-      ap (take (row-length (head-of (bytes at-read)))) (at-read .read .ensures .1) ∙ row-read (bytes at-read) (row at-read) none-here
+plan : (c : tie.Else1) → PlanRead (bytes (at-read c)) (at-read c .read .last .1 .0) (at-read c .read .result) row-room
+plan c =
+    let done = at-read c in
+    plan-read _ (row done) (start (done .before) .pre .of-row) (done .read .ensures .0) (done .read .ensures .1) (c .if1 .left)
 
 read-requires : tie.Need-read-requires
 read-requires c κs = search needs
@@ -71,15 +56,15 @@ returns : tie.Need-returns
 returns c =
     let put = c .before .before in
     let refused = put .before .before in
-    let at-read = read (refused .before) in (
-      rw (report-refused _ (λ z. refused .if1 .taken (number at-read ∙ z)), ← number at-read) (put .put-refused .ensures),
-      (at-read .read .ensures .1, cleared-none _),
+    let done = read (refused .before) in (
+      rw (report-refused _ (λ z. refused .if1 .taken (number done ∙ z)), ← number done) (put .put-refused .ensures),
+      (done .read .ensures .1, cleared-none _),
     )
 
 put-accepted-requires : tie.Need-put-accepted-requires
 put-accepted-requires c κs =
-    let at = not-refused c in (
-      record { accepted = rw (head-read at, row-left at) (readable _ _ (none at) .accepted); room = search needs },
+    let read-plan = plan (not-refused c) in (
+      record { accepted = rw (read-plan .head, read-plan .row) (read-plan .accepted); room = search needs },
       search needs,
     )
 
@@ -95,8 +80,9 @@ same-length-5 c = search needs
 returns-2 : tie.Need-returns-2
 returns-2 c =
     let put = c .before .before .before .before in
-    let at = not-refused (put .before) in (
-      rw (report-accepted _ (none at), ← row-left at, ← head-read at) (put .put-accepted .ensures .0),
+    let at = not-refused (put .before) in
+    let read-plan = plan at in (
+      rw (report-accepted _ (read-plan .none), ← read-plan .row, ← read-plan .head) (put .put-accepted .ensures .0),
       (at-read at .read .ensures .1, put .put-accepted .ensures .1),
     )
 

@@ -1,8 +1,6 @@
 -- `report::report` meets its contract: the text is appended to none, and stands before what the buffer had past it. Assumes nothing.
-use mathlib.Core.Path.{sym}
 use native.Mathlib.Omega.{arith}
 use borrow.Author.Needs.{needs}
-use lib.Seq.{length-take-le}
 use Rattle.model.specs.Levels.{gain}
 use Rattle.report_lines.specs.Lines.{most-lines}
 use Rattle.text.proofs.TextLaws.{appended-whole}
@@ -26,10 +24,7 @@ unfolding most-lines gain
 put-report-requires c κs = record { of-text = omega arith; of-row = search needs; of-workspace = search needs }
 
 returns : tie.Need-returns
-returns c =
-    let put = c .before .before .put-report .ensures .0 in
-    let whole = appended-whole put in
-    (whole .0, (whole .1, (put .inside, sym (length-take-le _ _ (put .inside)))))
+returns c = appended-whole (c .before .before .put-report .ensures .0)
 
 pub report-spec : {M : Type 1} → statement M
 report-spec =

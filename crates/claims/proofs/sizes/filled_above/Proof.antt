@@ -66,7 +66,7 @@ returns c =
     let loop = c .before .loop in
     let from = c .before .before in (
       listed-end (from .args .severity .now) (loop .sizes) (loop .count) (loop .x) (from .args .dense) (c .loop-test .left) (loop .inv .0) (loop .inv .2),
-      omega (arith, loop .inv .2 .fits, loop .inv .2 .room, from .pre .0),
+      (omega (arith, loop .inv .2 .fits, loop .inv .2 .room, from .pre .0), refl),
     )
 
 pub filled-above-spec : {M : Type 1} → statement M

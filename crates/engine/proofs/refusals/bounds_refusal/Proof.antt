@@ -21,27 +21,30 @@ start c = c .before .before .before
 
 returns : tie.Need-returns
 returns c =
-    let a = start (c .before) .args in
+    let from = start (c .before) in
+    let a = from .args in
     let n = c .before .asked-refusal in
-    refused-early (a .ask .head) (a .row .now) (a .outside) (workspace-needed (a .ask)) (a .room) (n .result) (n .ensures) (c .if1 .taken)
+    refused-early (a .ask .head) (a .row .now) (a .number) (a .outside) (workspace-needed (a .ask)) (a .room) (from .pre .0) (n .result) (n .ensures) (c .if1 .taken)
 
 known : (c : tie.Else1) → let a = start (c .before) .args in Accepted (a .ask .head) (a .row .now) × (a .outside ≡ false)
 known c =
-    let a = start (c .before) .args in
-    asked-inside (a .ask .head) (a .row .now) (a .outside) (sym (c .before .asked-refusal .ensures) ∙ c .if1 .left)
+    let from = start (c .before) in
+    let a = from .args in
+    asked-inside (a .ask .head) (a .row .now) (a .number) (a .outside) (from .pre .0) (sym (c .before .asked-refusal .ensures) ∙ c .if1 .left)
 
 workspace-needed-requires : tie.Need-workspace-needed-requires
-workspace-needed-requires c κs = (accepted-head _ _ (known c .0), start (c .before) .pre (known c .1))
+workspace-needed-requires c κs = (accepted-head _ _ (known c .0), start (c .before) .pre .1 (known c .1))
 
 -- of what is not turned away earlier, only the workspace is asked
 last-check :
     (c : tie.After-workspace-needed) (r : ℕ) →
     let a = start (c .before .before) .args in
-    r ≡ cond (ltb (a .room) (workspace-needed (a .ask))) 11 0 → r ≡ bounds-refusal (a .ask .head) (a .row .now) (a .outside) (workspace-needed (a .ask)) (a .room)
+    r ≡ cond (ltb (a .room) (workspace-needed (a .ask))) 11 0 → r ≡ bounds-refusal (a .ask .head) (a .row .now) (a .number, a .outside) (workspace-needed (a .ask)) (a .room)
 last-check c r e =
-    let a = start (c .before .before) .args in
+    let from = start (c .before .before) in
+    let a = from .args in
     let n = c .before .before .asked-refusal in
-    refused-late (a .ask .head) (a .row .now) (a .outside) (workspace-needed (a .ask)) (a .room) (n .result) r (n .ensures) (c .before .if1 .left)
+    refused-late (a .ask .head) (a .row .now) (a .number) (a .outside) (workspace-needed (a .ask)) (a .room) (from .pre .0) (n .result) r (n .ensures) (c .before .if1 .left)
     (e ∙ sym (room-is (workspace-needed (a .ask)) (a .room)))
 
 returns-2 : tie.Need-returns-2

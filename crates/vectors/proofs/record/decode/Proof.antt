@@ -18,13 +18,16 @@ opening c = c .before .before
 abbrev sizes : tie.After-word4 → tie.After-word3
 sizes c = c .before .before
 
-abbrev number : tie.After-word5 → tie.After-word4
+abbrev number : tie.After-number → tie.After-word4
 number c = c .before .before
 
-abbrev room : tie.After-number → tie.After-word5
+abbrev target : tie.After-word5 → tie.After-number
+target c = c .before .before
+
+abbrev room : tie.After-number2 → tie.After-word5
 room c = c .before .before
 
-abbrev fill : tie.After-word6 → tie.After-number
+abbrev fill : tie.After-word6 → tie.After-number2
 fill c = c .before .before .before
 
 element-copy-out-t4 : tie.Need-element-copy-out-t4
@@ -48,8 +51,11 @@ word-requires-5 c κs = search needs
 number-requires : tie.Need-number-requires
 number-requires c κs = search needs
 
-element-copy-out-t26 : tie.Need-element-copy-out-t26
-element-copy-out-t26 c = search needs
+number-requires-2 : tie.Need-number-requires-2
+number-requires-2 c κs = search needs
+
+element-copy-out-t29 : tie.Need-element-copy-out-t29
+element-copy-out-t29 c = search needs
 
 word-requires-6 : tie.Need-word-requires-6
 word-requires-6 c κs = search needs
@@ -59,7 +65,8 @@ unfolding record-of
 returns c =
     let last = c .word6 in
     let at-room = room (fill c) in
-    let at-sizes = sizes (number at-room) in
+    let at-target = target at-room in
+    let at-sizes = sizes (number at-target) in
     let at-months = months (opening at-sizes) in
     λ i. record {
       kind = getD (start at-months .args .words .now) 7 0;
@@ -69,9 +76,10 @@ returns c =
             opening = opening at-sizes .word2 .ensures i;
             sizes = at-sizes .word3 .ensures i;
           };
-      number = number at-room .word4 .ensures i;
+      number = number at-target .word4 .ensures i;
+      target = at-target .number .ensures i;
       room = at-room .word5 .ensures i;
-      fill = fill c .number .ensures i;
+      fill = fill c .number2 .ensures i;
       «fill_byte» = getD (start at-months .args .words .now) 55 0;
       length = last .ensures i;
     }
@@ -85,8 +93,9 @@ decode-spec =
     word-requires-2
     word-requires-3
     word-requires-4
-    word-requires-5
     number-requires
-    element-copy-out-t26
+    word-requires-5
+    number-requires-2
+    element-copy-out-t29
     word-requires-6
     returns)

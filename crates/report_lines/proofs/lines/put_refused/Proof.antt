@@ -1,8 +1,8 @@
--- `report::put_refused` meets its contract: there is room for any line. Assumes nothing.
+-- `lines::put_refused` meets its contract: there is room for any line. Assumes nothing.
 use Rattle.text.proofs.TextLaws.{line-fits}
 use borrow.Author.Needs.{needs}
-use Rattle.report.proofs.put_refused.Statement.{statement}
-use Rattle.report.proofs.put_refused.Tie as tie
+use Rattle.report_lines.proofs.lines.put_refused.Statement.{statement}
+use Rattle.report_lines.proofs.lines.put_refused.Tie as tie
 
 slice-aggregate-put-line : tie.Need-slice-aggregate-put-line
 slice-aggregate-put-line c = search needs

@@ -1,0 +1,117 @@
+// The quoting desk's line: from the bytes of a plan and a target to the least opening that reaches it, or why there is none.
+mod digits;
+
+use crate::digits::next_number;
+use crate::digits::not_digit;
+use model::Head;
+use model::limits;
+use opening::LeastAnswer;
+use plan::lengths::blank_row;
+use plan::lengths::row_length;
+use report_lines::lines::put_numbered;
+use report_lines::lines::put_refused;
+ghost use mathlib.Core.Path.{_≡_};
+ghost use Prim.Native.Nat.{_≤_};
+ghost use mathlib.Core.List.{_++_};
+ghost use lib.ListN.{length, take, drop, replicate};
+ghost use Rattle.model.specs.Plan.{row-length};
+ghost use Rattle.model.specs.Refusal.{Accepted};
+ghost use Rattle.opening.specs.Answers.{least-answer};
+ghost use Rattle.text.specs.Text.{Appended};
+ghost use Rattle.report_lines.specs.Lines.{line-room};
+ghost use Rattle.quote.specs.Quote.{survive-room, answer-line, quote-of};
+ghost use Rattle.quote.specs.Target.{target-of};
+
+// Room for every line: the proof of `quote` fails where it is less than `line-room`.
+pub const TEXT: usize = 128;
+
+// Room for survive on every plan; specs/Quote.antt has it for the definitions.
+const WORKSPACE: usize = 2 * limits::LEVELS;
+
+// A target in parts of 2^30, and whether it could be read; 0 where it could not.
+pub struct Target {
+    pub readable: bool,
+    pub parts: u32,
+}
+
+// Writes the line for a plan's bytes and a target to the start of the text, past which nothing changes, and answers how long it is. `within` is for a
+// caller that takes the first r bytes.
+pub fn quote(bytes: &[u8], target: u32, text: &mut [u8; TEXT]) -> usize
+    ensures answered { λ r. ⌜ r ≡ length (quote-of (now (bytes .entry)) target) ⌝ }
+    ensures written { λ r. ⌜ now (text .exit) ≡ quote-of (now (bytes .entry)) target ++ drop r (now (text .entry)) ⌝ }
+    ensures within { λ r. ⌜ (r ≤ length (now (text .exit))) × (r ≡ length (take r (now (text .exit)))) ⌝ }
+{
+    put_quote(text, bytes, target)
+}
+
+fn put_quote(text: &mut [u8], bytes: &[u8], target: u32) -> usize
+    requires { ⌜ line-room ≤ length (now text) ⌝ }
+    ensures { λ r. ⌜ Appended (now (text .entry)) 0 (quote-of (now (bytes .entry)) target) (now (text .exit)) r ⌝ }
+{
+    let mut row = blank_row();
+    let read = codec::read(bytes, &mut row);
+    let refusal = read.refusal;
+    if refusal != 0 {
+        return put_refused(text, 0, refusal);
+    }
+    put_answer(text, least_of(read.head, &row, target))
+}
+
+// The answer for an accepted plan, whose row is the first part of the lent one.
+fn least_of(head: Head, row: &[u32], target: u32) -> LeastAnswer
+    requires { ⌜ Accepted head (take (row-length head) (now row)) ⌝ }
+    ensures { λ r. ⌜ r ≡ least-answer head (take (row-length head) (now (row .entry))) target survive-room ⌝ }
+{
+    let used = row_length(head);
+    let mut workspace = workspace();
+    opening::least(head, &row[..used], target, &mut workspace)
+}
+
+// The first `ensures` gives the length, which lending the array needs.
+fn workspace() -> [u32; WORKSPACE]
+    ensures sized { λ r. ⌜ survive-room ≡ length r ⌝ }
+    ensures blank { λ r. ⌜ r ≡ replicate survive-room 0 ⌝ }
+{
+    [0; WORKSPACE]
+}
+
+fn put_answer(text: &mut [u8], answer: LeastAnswer) -> usize
+    requires { ⌜ line-room ≤ length (now text) ⌝ }
+    ensures { λ r. ⌜ Appended (now (text .entry)) 0 (answer-line answer) (now (text .exit)) r ⌝ }
+{
+    let refusal = answer.refusal;
+    let lower = answer.lower as u64;
+    let upper = answer.upper as u64;
+    if refusal != 0 {
+        return put_refused(text, 0, refusal);
+    }
+    put_numbered(text, 0, b"opening", answer.opening, lower, upper)
+}
+
+// Reads a target that is written in decimal; leading zeros change nothing.
+pub fn target_of(argument: &[u8]) -> Target
+    ensures { λ r. ⌜ r ≡ target-of (now (argument .entry)) ⌝ }
+{
+    if argument.len() == 0 {
+        return Target {
+            readable: false,
+            parts: 0,
+        };
+    }
+    let mut number = 0;
+    let mut i = 0;
+    while i < argument.len() {
+        if not_digit(argument[i]) {
+            return Target {
+                readable: false,
+                parts: 0,
+            };
+        }
+        number = next_number(number, argument[i]);
+        i += 1;
+    }
+    Target {
+        readable: true,
+        parts: number,
+    }
+}
