@@ -9,11 +9,10 @@ use borrow.Author.Tests.{ltb-true, ltb-false, le-ltb, lt-ltb, ne-eqb}
 use lib.Dec.{ltb, eqb}
 use lib.ListN.{length, take, length-append}
 use Rattle.model.specs.declared.Head.{Head}
-use Rattle.model.specs.declared.Question.the-variants.{Survive}
 use Rattle.model.specs.Limits.{row-room}
 use Rattle.model.specs.Scale.{S}
 use Rattle.model.specs.Sums.{any}
-use Rattle.model.specs.Refusal.{HeadAccepted, rows-needed, workspace-needed}
+use Rattle.model.specs.Refusal.{HeadAccepted, rows-needed, workspace-needed, survival-workspace}
 use Rattle.model.proofs.SumLaws.{none-append}
 use Rattle.model.proofs.Facts.{head-facts}
 use Rattle.model.proofs.Rooms.{figures}
@@ -27,7 +26,7 @@ use Rattle.quote.proofs.Laws.{quote-refused}
 use Rattle.quote.proofs.Spelling.{read-as, spelled-more}
 
 -- "Its desk is that of survive": no accepted plan needs a larger one
-pub room-suffices : (h : Head) → HeadAccepted h → workspace-needed (record { head = h; question = Survive }) ≤ survive-room
+pub room-suffices : (h : Head) → HeadAccepted h → survival-workspace h ≤ survive-room
 unfolding workspace-needed rows-needed
 room-suffices h accepted = omega (arith, head-facts h accepted .span-fits)
 
