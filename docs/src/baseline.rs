@@ -1,6 +1,8 @@
 //! Documents 01 and 02 as a plain Rust program: plan bytes on standard input, the reserve report on standard output. With the argument `sheet`: a
 //! rule sheet on standard input, its plan bytes on standard output or, on standard error, the number that turns it away. With the arguments `least`
-//! and a target: plan bytes on standard input, the least opening that reaches it and its bounds on standard output.
+//! and a target: plan bytes on standard input, the least opening that reaches it and its bounds on standard output. With the argument `moves`: the
+//! bytes of two plans that differ only in their chances, one after the other, on standard input, how far each line of their reports moves on
+//! standard output.
 //!
 //!   rustc -O docs/src/baseline.rs -o OUT
 //!
@@ -92,6 +94,11 @@ fn check_tail(n: usize, u: usize, m: usize, over: u64) -> Result<(), u32> {
     Ok(())
 }
 
+/// How many bytes a plan has, its head included.
+fn plan_bytes(n: usize, m: usize) -> usize {
+    (HEAD_BITS.iter().sum::<usize>() + NUMBER_BITS * (n + m + 1)).div_ceil(8)
+}
+
 /// The plan, or the number that turns the bytes away.
 fn read(bytes: &[u8]) -> Result<Plan, u32> {
     if 8 * bytes.len() < HEAD_BITS.iter().sum() {
@@ -100,7 +107,7 @@ fn read(bytes: &[u8]) -> Result<Plan, u32> {
     let mut bits = Bits { bytes, at: 0 };
     let [n, u, m] = HEAD_BITS.map(|width| bits.take(width) as usize);
     check_head(n, u, m)?;
-    if bytes.len() != (bits.at + NUMBER_BITS * (n + m + 1)).div_ceil(8) {
+    if bytes.len() != plan_bytes(n, m) {
         return Err(5);
     }
     let row: Vec<u64> = (0..n + m + 1).map(|_| bits.take(NUMBER_BITS)).collect();
@@ -366,6 +373,40 @@ fn report(plan: &Plan) -> String {
     text
 }
 
+// ---- How far chances can move the result
+
+/// The last two words of a line are its bounds.
+fn bounds_of(line: &str) -> (&str, [u64; 2]) {
+    let mut words = line.rsplitn(3, ' ');
+    let [upper, lower] = [(); 2].map(|_| words.next().unwrap().parse().unwrap());
+    (words.next().unwrap(), [lower, upper])
+}
+
+/// The differences of the two bounds of each line of the reports, and the sum of the differences of the chances that bounds them: of months 1 to t
+/// for `fails t`, of all months for the others. The first line has no bounds, and the last one adds others up.
+fn moves(plan: &Plan, other: &Plan) -> String {
+    let chances = plan.chances.iter().zip(&other.chances);
+    let differences: Vec<u64> = chances.map(|(&one, &another)| u64::from(one.abs_diff(another))).collect();
+    let (report, moved) = (report(plan), report(other));
+    let mut text = String::new();
+    for (line, moved) in report.lines().zip(moved.lines()).skip(1).filter(|(line, _)| !line.starts_with("fails all")) {
+        let (words, pair) = bounds_of(line);
+        let (_, other_pair) = bounds_of(moved);
+        let months = words.strip_prefix("fails ").map_or(differences.len(), |t| t.parse().unwrap());
+        let apart: u64 = differences[..months].iter().sum();
+        writeln!(text, "{words} {} {} {apart}", pair[0].abs_diff(other_pair[0]), pair[1].abs_diff(other_pair[1])).unwrap();
+    }
+    text
+}
+
+/// The same from two plans' bytes, one after the other, which are accepted.
+fn moves_text(bytes: &[u8]) -> String {
+    let mut bits = Bits { bytes, at: 0 };
+    let [n, _, m] = HEAD_BITS.map(|width| bits.take(width) as usize);
+    let [one, other] = <[&[u8]; 2]>::from(bytes.split_at(plan_bytes(n, m))).map(|bytes| read(bytes).expect("an accepted plan"));
+    moves(&one, &other)
+}
+
 fn main() -> io::Result<()> {
     let mut bytes = Vec::new();
     io::stdin().read_to_end(&mut bytes)?;
@@ -379,6 +420,7 @@ fn main() -> io::Result<()> {
             Some(target) => io::stdout().write_all(least_line(&bytes, target).as_bytes()),
             None => writeln!(io::stderr(), "a target is a whole number"),
         },
+        Some("moves") => io::stdout().write_all(moves_text(&bytes).as_bytes()),
         _ => {
             let text = match read(&bytes) {
                 Ok(plan) => report(&plan),

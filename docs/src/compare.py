@@ -1,13 +1,16 @@
 #!/usr/bin/env python3
-"""Holds two programs for the reserve report against each other, or two that turn rule sheets into plan bytes, or two that find the least opening.
+"""Holds two programs for the reserve report against each other, or two that turn rule sheets into plan bytes, or two that find the least opening, or
+how far the lines of one's reports move between two plans against another program and the sum that bounds them.
 
   compare.py PROGRAM REFERENCE [COUNT]
   compare.py --sheets PROGRAM REFERENCE [COUNT]
   compare.py --least PROGRAM REFERENCE [COUNT]
+  compare.py --moves PROGRAM REFERENCE [COUNT]
 
 Makes COUNT (100) random accepted plans or sheets of all sizes and as many damaged ones, always the same, hands each to both programs on standard
 input, and compares what they write on standard output and standard error, byte for byte. For the least opening it does so with several targets,
-each a program's last argument. A program may be a command of several words, given as one. The last line is the number of differences.
+each a program's last argument. For moves it makes pairs of accepted plans alike but for their chances: PROGRAM prints the report of each, and REFERENCE
+how far each line moves between them; a line that moves by more than the sum of the chances' differences counts as a difference. A program may be a command of several words, given as one. The last line is the number of differences.
 """
 import random
 import shlex
@@ -16,6 +19,7 @@ import sys
 import time
 from collections import Counter, namedtuple
 
+from moves import moves_text, too_far
 from plans import changed, flipped, gapped, geometric, some_chance, split
 from rules import CLAIMS, HEAD_BITS, HEAD_BYTES, LARGEST, MONTHS, OPENING, SIZES, Head, S, bit_length, byte_length, write_bytes
 from sheet_cases import damaged_sheet, some_sheet
@@ -153,6 +157,27 @@ def some_damaged_sheet(rng):
     return damaged_sheet(rng, some_head(rng))
 
 
+# ---- Pairs of plans that differ only in their chances, one after the other
+
+
+def some_moves(rng, chances):
+    """Each chance a little higher; one of them another, if there is one; each one part up or down; each another."""
+    near, n = rng.randrange(1, 2 ** rng.randrange(1, 30)), len(chances)
+    return rng.choice([
+        [min(S, chance + near) for chance in chances],
+        changed(chances, rng.randrange(n), some_chance(rng)) if n else [],
+        [min(S, max(0, chance + rng.choice([-1, 1]))) for chance in chances],
+        some_chances(rng, n),
+    ])
+
+
+def pair(rng):
+    head = some_head(rng)
+    row = some_row(rng, head)
+    other = some_moves(rng, row[: head.months]) + row[head.months :]
+    return write_bytes(head, row) + write_bytes(head, other)
+
+
 # ---- Arguments: none, or a target for the least opening
 
 TARGETS = 0, 1, S, S + 1, 2**32, 2**32 + 1, 2**64 + 1, 10**40  # the last ones are past S, whatever their last bits are
@@ -184,6 +209,7 @@ REPORTS = Matter("plans", "reports", {"accepted": accepted, "damaged": damaged},
 OPTIONS = {
     "--sheets": Matter("sheets", "plans", {"accepted": accepted_sheet, "damaged": some_damaged_sheet}, no_arguments),
     "--least": Matter("plans", "openings", {"accepted": accepted, "damaged": damaged}, some_targets),
+    "--moves": Matter("pairs of plans", "within the sum", {"accepted": pair}, no_arguments),
 }
 
 
@@ -197,6 +223,14 @@ class Program:
         ran = subprocess.run([*shlex.split(self.command), *arguments], input=data, capture_output=True, check=True)
         self.seconds += time.perf_counter() - start
         return ran.stdout, ran.stderr
+
+
+class Reports(Program):
+    """How far the lines of a report program's two reports move."""
+
+    def answer(self, data):
+        text = moves_text(data, lambda plan: super(Reports, self).answer(plan)[0].decode())
+        return text.encode(), "".join(f"too far: {words}\n" for words in too_far(text)).encode()
 
 
 def outcome(answer, made):
@@ -229,7 +263,7 @@ def main(words):
         matter, words = OPTIONS[words[0]], words[1:]
     if len(words) not in (2, 3):
         sys.exit(__doc__)
-    programs = [Program(command) for command in words[:2]]
+    programs = [Reports(words[0]) if matter is OPTIONS["--moves"] else Program(words[0]), Program(words[1])]
     count = int(words[2]) if len(words) == 3 else 100
     rng, own, total = random.Random(4), random.Random(8), 0  # the arguments have random numbers of their own
     for name, make in matter.makers.items():

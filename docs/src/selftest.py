@@ -9,7 +9,8 @@ from functools import cache
 
 from exact import carried_counts, carried_failures, carried_weight, claim_chance, count_weight, encloses, failure_weight, first_claim_both
 from exact import first_claim_survival, keeps_gap, level_kept, outcomes, question_weight
-from plans import EXAMPLE, EXAMPLE_BYTES, EXAMPLE_TEXT, WORKED, flat, gapped, geometric_plan, lasting_plan, questions, some_chance, some_plan
+from moves import chances_apart, difference, more_months
+from plans import EXAMPLE, EXAMPLE_BYTES, EXAMPLE_TEXT, WORKED, changed, flat, gapped, geometric_plan, lasting_plan, questions, some_chance, some_plan
 from plans import split, timed_plans
 from rules import CLAIMS, LARGEST, MONTHS, MOST_ASKED, OPENING, PLACES, S, SIZES, SURVIVE, Head, Question, all_months, ask_checks, bounds
 from rules import byte_length, claim_sum, count_row, down, failure_bounds, failure_checks, failure_rule, largest_level, last_rows, least_answer
@@ -273,6 +274,74 @@ def check_least_numbers(tally):
         tally.check("least opening: lines", least_line(data, target) == line, (data.hex(), target))
 
 
+# ---- Two plans
+
+
+def moved_chance(rng, chance):
+    """One part more or less, another close by, or any."""
+    near = rng.randrange(2 ** rng.randrange(1, 30))
+    return min(S, max(0, rng.choice([chance, chance + 1, chance - 1, chance + near, chance - near, some_chance(rng)])))
+
+
+def with_chances(plan, chances):
+    return plan._replace(chances=chances)
+
+
+def other_plans(rng, plan):
+    """Every chance another; one month's alone, if there is one."""
+    yield with_chances(plan, [moved_chance(rng, chance) for chance in plan.chances])
+    if plan.chances:
+        at = rng.randrange(len(plan.chances))
+        yield with_chances(plan, changed(plan.chances, at, moved_chance(rng, plan.chances[at])))
+
+
+def check_moved(tally, name, plans, months, weights, pairs, about):
+    """Of the same question on both plans: its weights and its bounds. The first so many months count."""
+    apart, whole = chances_apart(*plans, months), S ** (2 * plans[0].head.months)
+    lower, upper = (difference(*bound) for bound in zip(*pairs))
+    tally.check(f"{name} move: exact answers by the sum", difference(*weights) * S <= apart * whole, about)
+    tally.check(f"{name} move: lower bounds by the sum and the months", lower <= apart + more_months(*plans, months), about)
+    tally.check(f"{name} move: both bounds by the sum alone", max(lower, upper) <= apart, about)
+
+
+def check_moves(tally, plans, asked):
+    """Of these questions, of the whole count row and of every month's failure."""
+    months = plans[0].head.months
+    for question in asked:
+        weights, pairs = zip(*((carried_weight(plan, question), bounds(plan, question)) for plan in plans))
+        check_moved(tally, "questions", plans, months, weights, pairs, (plans, question))
+    counts, failures = [carried_counts(plan) for plan in plans], [carried_failures(plan) for plan in plans]
+    rows = (zip(count_row(plan, down), count_row(plan, up)) for plan in plans)
+    for k, pairs in enumerate(zip(*rows)):
+        check_moved(tally, "count row", plans, months, [count[k] for count in counts], pairs, (plans, k))
+    for t in all_months(plans[0].head):
+        pairs = [failure_bounds(plan, t) for plan in plans]
+        check_moved(tally, "failures", plans, t, [failure[t] for failure in failures], pairs, (plans, t))
+
+
+def check_sum_met(tally):
+    """A fund that every claim ruins, with a claim in no month but one: every part of that month's chance moves the exact answers and the bounds."""
+    head = Head(4, 0, 4)
+    for t, chances in itertools.product(all_months(head), itertools.permutations((0, 1, S // 3, S), 2)):
+        plans = [plan_of(head, changed([0] * 4, t - 1, chance) + [0, 0, 0, S, 0]) for chance in chances]
+        apart, whole = difference(*chances), S ** (2 * head.months)
+        weights = [(carried_weight(plan, SURVIVE), carried_counts(plan)[1], carried_failures(plan)[t]) for plan in plans]
+        for pair in zip(*weights):
+            tally.check("the sum is met exactly", difference(*pair) * S == apart * whole, (t, chances, pair))
+        for divide in (down, up):
+            values = [(month_rule(plan, SURVIVE, divide), count_row(plan, divide)[1], failure_rule(plan, t, divide)) for plan in plans]
+            tally.check("the sum is met by both bounds", all(difference(*pair) == apart for pair in zip(*values)), (t, chances, values))
+
+
+def check_rising(tally, plan):
+    """Neither survival bound falls when the opening grows, nor does the exact chance."""
+    asked = [opened(plan, opening) for opening in range(plan.head.opening + 1)]
+    values = [(carried_weight(one, SURVIVE), *bounds(one, SURVIVE)) for one in asked]
+    for smaller, larger in itertools.combinations(range(len(values)), 2):
+        falls = [name for name, a, b in zip(("exact", "lower", "upper"), values[smaller], values[larger]) if a > b]
+        tally.check("survival does not fall when the opening grows", not falls, (plan, smaller, larger, falls))
+
+
 def check_plan(tally, plan):
     listed, head = outcomes(plan), plan.head
     tally.check("all histories weigh S^(2n)", sum(one.weight for one in listed) == S ** (2 * head.months), plan)
@@ -461,7 +530,7 @@ def selftest():
         check_claim_sums(tally, own, weights)
     check_small_divisions(tally, random.Random(15))
     check_least_numbers(tally)
-    targets = random.Random(21)
+    targets, others = random.Random(21), random.Random(33)
     for _ in range(300):
         head, row = some_plan(rng, rng.randrange(5), rng.randrange(6), rng.randrange(1, 5))
         tally.check("accepted", refusal(ask_checks(head, row, SURVIVE, math.inf)) == 0, (head, row))
@@ -469,9 +538,16 @@ def selftest():
         check_claim_sums(tally, own, plan_of(head, row).weights)
         check_plan(tally, plan_of(head, row))
         check_least_openings(tally, targets, plan_of(head, row))
+        check_rising(tally, plan_of(head, row))
+        for other in other_plans(others, plan_of(head, row)):
+            check_moves(tally, (plan_of(head, row), other), questions(head))
+    check_sum_met(tally)
     for u, m in ((0, 2), (3, 5), (7, 1)):
         plan = plan_of(*lasting_plan(rng, MONTHS, u, m))
         check_long_plan(tally, plan)
         check_least_openings(tally, targets, plan)
+        check_rising(tally, plan)
+        for other in other_plans(others, plan):
+            check_moves(tally, (plan, other), [SURVIVE, Question("both", 1), Question("high", u + 9), Question("low", 2)])
     tally.print()
     return bool(tally.failed)

@@ -4,5 +4,6 @@ pub mod AskLaws
 pub mod AnswerLaws
 -- the count row
 mod CountLaws
--- several calls together
+-- what a call that was not refused answers, and several calls together
 pub mod Theorems
+pub mod TwoCalls

@@ -1,24 +1,32 @@
 -- Laws of the numbers that several calls answer, of what their contracts say that they answer.
 use mathlib.Core.Path.{_≡_, refl, sym, ap, _∙_}
+use mathlib.Core.Bool.{cond}
 use mathlib.Core.List.{List}
 use Prim.Native.Nat.{ℕ, zero, suc, _+_, _≤_, _<_}
 use native.Mathlib.Omega.{arith}
+use lib.Dec.{eqb}
+use lib.ListN.{getD}
 use borrow.Author.Tests.{ne-eqb}
 use Rattle.model.specs.declared.Head.{Head}
+use Rattle.model.specs.declared.Ask.{Ask}
 use Rattle.model.specs.declared.Question.the-variants.{Survive, High}
 use Rattle.model.specs.declared.Rounding.the-variants.{Down, Up}
+use Rattle.model.specs.Limits.{places}
 use Rattle.model.specs.Scale.{S}
 use Rattle.model.specs.Sums.{sum}
 use Rattle.model.specs.Plan.{plan-of, horizon}
-use Rattle.model.specs.Bounds.{lower, upper, ruin-lower, ruin-upper}
-use Rattle.model.specs.Refusal.{Accepted, ask-refusal}
+use Rattle.model.specs.CountRow.{count-row}
+use Rattle.model.specs.Bounds.{lower, upper, ruin-lower, ruin-upper, count-lower, count-upper}
+use Rattle.model.specs.Refusal.{plan-refusal, Accepted, ask-refusal}
 use Rattle.model.proofs.SumLaws.{sum-ext}
 use Rattle.model.proofs.Facts.{facts, horizon-is}
+use Rattle.model.proofs.Counts.{getD-tabulate}
 use Rattle.model.proofs.Opening.{high-exceeded}
 use Rattle.model.proofs.Theorems.{whole-between}
 use Rattle.engine.specs.declared.Answer.{Answer}
-use Rattle.engine.specs.Answers.{refused, bounds-answer, answer, ruin-answer}
-use Rattle.engine.proofs.AskLaws.{asked}
+use Rattle.engine.specs.declared.CountRow.{CountRow}
+use Rattle.engine.specs.Answers.{refused, bounds-answer, answer, ruin-answer, count-rows, count-refused, count-answer}
+use Rattle.engine.proofs.AskLaws.{asked, month-inside}
 
 -- an answer gives its refusal's number, and its bounds where that is 0
 number-is : (number low high : ℕ) → bounds-answer number low high .refusal ≡ number
@@ -29,6 +37,62 @@ number-is (suc n) low high = rw (ne-eqb (suc n) 0 (λ z. omega (arith, z)))
 bounds-are : (number low high : ℕ) → bounds-answer number low high .refusal ≡ 0 → (bounds-answer number low high .lower ≡ low) × (bounds-answer number low high .upper ≡ high)
 unfolding bounds-answer
 bounds-are number low high e = rw (sym (number-is number low high) ∙ e) (refl, refl)
+
+-- What is known of an ask that was not refused: its plan is accepted, and it answers the definition's bounds …
+pub record Answered (a : Ask) (row : List ℕ) (room : ℕ) : Type 0 where
+  pub accepted : Accepted (a .head) row
+  pub low : answer a row room .lower ≡ lower (plan-of (a .head) row) (a .question)
+  pub high : answer a row room .upper ≡ upper (plan-of (a .head) row) (a .question)
+
+pub answered : (a : Ask) (row : List ℕ) (room : ℕ) → answer a row room .refusal ≡ 0 → Answered a row room
+unfolding answer
+answered a row room e =
+    record {
+      accepted = asked (a .head) row 10 _ _ room (omega arith) (sym (number-is _ _ _) ∙ e) .accepted;
+      low = bounds-are _ _ _ e .0;
+      high = bounds-are _ _ _ e .1;
+    }
+
+-- … and the same of ruin in a month, which is one of the plan's.
+pub record RuinAnswered (h : Head) (t : ℕ) (row : List ℕ) (room : ℕ) : Type 0 where
+  pub accepted : Accepted h row
+  pub some : 0 < t
+  pub inside : t ≤ horizon (plan-of h row)
+  pub low : ruin-answer h t row room .lower ≡ ruin-lower (plan-of h row) t
+  pub high : ruin-answer h t row room .upper ≡ ruin-upper (plan-of h row) t
+
+pub ruin-answered : (h : Head) (t : ℕ) (row : List ℕ) (room : ℕ) → ruin-answer h t row room .refusal ≡ 0 → RuinAnswered h t row room
+unfolding ruin-answer
+ruin-answered h t row room e =
+    let known = asked h row 10 _ _ room (omega arith) (sym (number-is _ _ _) ∙ e) in
+    let month = month-inside h t (known .inside) in
+    record {
+      accepted = known .accepted;
+      some = month .0;
+      inside = omega (arith, month .1, horizon-is h row (facts h row (known .accepted) .row-is));
+      low = bounds-are _ _ _ e .0;
+      high = bounds-are _ _ _ e .1;
+    }
+
+-- The count row likewise, place by place.
+pub record CountAnswered (h : Head) (row : List ℕ) : Type 0 where
+  pub accepted : Accepted h row
+  pub low : (k : ℕ) → k < places → getD (count-answer h row .row .lower) k 0 ≡ count-lower (plan-of h row) k
+  pub high : (k : ℕ) → k < places → getD (count-answer h row .row .upper) k 0 ≡ count-upper (plan-of h row) k
+
+pub count-answered : (h : Head) (row : List ℕ) → count-answer h row .refusal ≡ 0 → CountAnswered h row
+unfolding count-answer count-refused count-rows
+count-answered h row e =
+    let accepted : Accepted h row = sym (number (plan-refusal h row) (count-rows (plan-of h row .chances))) ∙ e in
+    record {
+      accepted = accepted;
+      low = λ k l. rw accepted (getD-tabulate places (count-row Down (plan-of h row .chances)) k l);
+      high = λ k l. rw accepted (getD-tabulate places (count-row Up (plan-of h row .chances)) k l);
+    }
+  where
+    number : (n : ℕ) (rows : CountRow) → (cond (eqb n 0) (record { refusal = 0; row = rows }) (count-refused n)) .refusal ≡ n
+    number zero rows = refl
+    number (suc n) rows = rw (ne-eqb (suc n) 0 (λ z. omega (arith, z)))
 
 -- bounds of 0 are answered with zeros, as a refusal is
 zeros-are : (number low high : ℕ) → low ≡ 0 → high ≡ 0 → bounds-answer number low high ≡ refused number
@@ -61,27 +125,21 @@ module _
     abbrev ruin : ℕ → Answer
     ruin t = ruin-answer h t row (month-room t)
 
-    accepted : Accepted h row
-    unfolding answer
-    accepted = asked h row 10 _ _ room (omega arith) (sym (number-is _ _ _) ∙ survived) .accepted
+    abbrev known : Answered (record { head = h; question = Survive }) row room
+    known = answered (record { head = h; question = Survive }) row room survived
 
-    survival-is : (survival .lower ≡ lower (plan-of h row) Survive) × (survival .upper ≡ upper (plan-of h row) Survive)
-    unfolding answer
-    survival-is = bounds-are _ _ _ survived
-
-    ruin-is : (t : ℕ) → 0 < t → t ≤ h .months → (ruin t .lower ≡ ruin-lower (plan-of h row) t) × (ruin t .upper ≡ ruin-upper (plan-of h row) t)
-    unfolding ruin-answer
-    ruin-is t some l = bounds-are _ _ _ (ruined t some l)
+    abbrev ruin-known : (t : ℕ) → 0 < t → t ≤ h .months → RuinAnswered h t row (month-room t)
+    ruin-known t some l = ruin-answered h t row (month-room t) (ruined t some l)
 
     -- a sum over the plan's months
     all-months : (f g : ℕ → ℕ) → ((t : ℕ) → 0 < t → t ≤ h .months → f t ≡ g t) → sum (h .months) f ≡ sum (horizon (plan-of h row)) g
     all-months f g same =
         sum-ext (h .months) f g (λ i l. same (suc i) (omega arith) l)
-        ∙ ap (λ (n : ℕ). sum n g) (sym (horizon-is h row (facts h row accepted .row-is)))
+        ∙ ap (λ (n : ℕ). sum n g) (sym (horizon-is h row (facts h row (known .accepted) .row-is)))
 
     pub answers-make-up-the-whole :
         (sum (h .months) (λ t. ruin t .lower) + survival .lower ≤ S) × (S ≤ sum (h .months) (λ t. ruin t .upper) + survival .upper)
     answers-make-up-the-whole = (
-      rw (all-months (λ t. ruin t .lower) (ruin-lower (plan-of h row)) (λ t some l. ruin-is t some l .0), survival-is .0) (whole-between h row accepted .0),
-      rw (all-months (λ t. ruin t .upper) (ruin-upper (plan-of h row)) (λ t some l. ruin-is t some l .1), survival-is .1) (whole-between h row accepted .1),
+      rw (all-months (λ t. ruin t .lower) (ruin-lower (plan-of h row)) (λ t some l. ruin-known t some l .low), known .low) (whole-between h row (known .accepted) .0),
+      rw (all-months (λ t. ruin t .upper) (ruin-upper (plan-of h row)) (λ t some l. ruin-known t some l .high), known .high) (whole-between h row (known .accepted) .1),
     )

@@ -3,7 +3,7 @@ use mathlib.Core.Path.{_≡_, refl, sym, _∙_, ap, fun-ext}
 use mathlib.Core.Bool.{true, cond}
 use mathlib.Core.List.{List, [], _∷_}
 use Prim.Native.Nat.{ℕ, zero, suc, _+_, _*_, _-_, _^_, _≤_, _<_}
-use native.Mathlib.Nat.{mul-add, add-mul, mul-assoc, mul-comm, mul-left-comm, mul-right-comm, mul-zero, zero-mul, mul-one, one-mul, zero-add, add-comm, sub-zero, pow-zero, mul-le-mul-left, le-refl}
+use native.Mathlib.Nat.{mul-add, add-mul, mul-assoc, mul-comm, mul-left-comm, mul-right-comm, mul-zero, zero-mul, mul-one, one-mul, zero-add, add-comm, sub-zero, pow-zero, le-refl}
 use native.Mathlib.Omega.{arith}
 use lib.Dec.{eqb, eqb·zero-suc, eqb·suc-zero, eqb·suc-suc}
 use lib.ListN.{length, getD}
@@ -19,7 +19,7 @@ use Rattle.model.specs.CountRow.{one-before, count-month, exact-count-mo
 use Rattle.model.specs.Bounds.{live-months, month-gap}
 use Rattle.model.proofs.SumLaws.{sum-nth-times, pow-two-more}
 use Rattle.model.proofs.Quotients.{Direction, times-right, quotient-le, quotient-gap, quotient-whole}
-use Rattle.model.proofs.Month.{scale-positive, mixture-le}
+use Rattle.model.proofs.Month.{scale-positive, mixture-le, mixture-keeps}
 use Rattle.model.proofs.Values.{live-months-idle, live-months-live}
 use Rattle.model.proofs.Histories.{weigh, weight-is, weigh-end, weigh-split, weigh-none, claims-weigh, claims-quiet, claims-more}
 
@@ -36,7 +36,7 @@ getD-tabulate (suc n) f zero l = refl
 getD-tabulate (suc n) f (suc k) l = getD-tabulate n (λ i. f (suc i)) k (omega arith)
 
 -- what holds of 0 and of every place holds of the place before
-before-rel : (R : ℕ → ℕ → Type 0) → R 0 0 → (X Y : Row) → ((k : ℕ) → R (X k) (Y k)) → (k : ℕ) → R (one-before X k) (one-before Y k)
+pub before-rel : (R : ℕ → ℕ → Type 0) → R 0 0 → (X Y : Row) → ((k : ℕ) → R (X k) (Y k)) → (k : ℕ) → R (one-before X k) (one-before Y k)
 unfolding one-before
 before-rel R nothing X Y h zero = nothing
 before-rel R nothing X Y h (suc k) = h k
@@ -76,12 +76,7 @@ count-gap-live :
 unfolding count-month
 count-gap-live P hP X X′ g h k =
     quotient-gap (P * one-before X k + (S - P) * X k) (P * one-before X′ k + (S - P) * X′ k) S g scale-positive
-    (omega (
-      arith,
-      simp mul-add at (mul-le-mul-left P (before-rel (λ a b. b ≤ a + g) (omega arith) X X′ h k)),
-      simp mul-add at (mul-le-mul-left (S - P) (h k)),
-      mixture-le P g g g hP (le-refl g) (le-refl g),
-    ))
+    (omega (arith, mixture-keeps P (X′ k) (one-before X′ k) (X k) (one-before X k) g hP (h k) (before-rel (λ a b. b ≤ a + g) (omega arith) X X′ h k)))
 
 count-gap-idle : (X X′ : Row) (g : ℕ) → ((k : ℕ) → X′ k ≤ X k + g) → (k : ℕ) → count-month Up 0 X′ k ≤ count-month Down 0 X k + g
 unfolding count-month

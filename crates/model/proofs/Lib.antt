@@ -4,6 +4,7 @@ pub mod LevelLaws
 pub mod Facts
 pub mod Rooms
 pub mod Quotients
+pub mod Distances
 pub mod Month
 pub mod FilledLaws
 pub mod Values
@@ -12,9 +13,13 @@ pub mod Unrounded
 pub mod FirstRuin
 pub mod Questions
 pub mod Counts
+pub mod Moves
+pub mod Rising
 pub mod Filling
 pub mod FirstClaimLaw
 pub mod Tail
 pub mod Opening
 pub mod Theorems
+pub mod PlansNear
+pub mod TwoPlans
 pub mod Worked

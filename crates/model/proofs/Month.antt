@@ -21,7 +21,7 @@ pub scale-positive : 0 < S
 unfolding S
 scale-positive = omega arith
 
-square-positive : 0 < S * S
+pub square-positive : 0 < S * S
 square-positive = mul-pos scale-positive scale-positive
 
 -- the claim sum by recursion on the severity list and the level
@@ -79,11 +79,11 @@ pub claim-sum-rel :
     (F : List ℕ) (s : ℕ) → R (total F) (claim-sum F Y s) (claim-sum F Z s)
 claim-sum-rel R Y Z none more F s = claim-sum-rel-below R Y Z s none (λ f w a b r l. more f w a b r) F s (le-refl s)
 
--- rows that differ by at most g at each level have claim sums that differ by at most g for each part of weight
+-- rows that are at most g above others at each level have claim sums of at most g above theirs, for each part of S
 pub claim-sum-le :
-    (F : List ℕ) (Y Z : Row) (g : ℕ) → ((s : ℕ) → Y s ≤ Z s + g) → (s : ℕ) → claim-sum F Y s ≤ claim-sum F Z s + total F * g
-claim-sum-le F Y Z g h =
-    claim-sum-rel (λ w a b. a ≤ b + w * g) Y Z (λ w. omega arith) more F
+    (F : List ℕ) → total F ≤ S → (Y Z : Row) (g : ℕ) → ((s : ℕ) → Y s ≤ Z s + g) → (s : ℕ) → claim-sum F Y s ≤ claim-sum F Z s + S * g
+claim-sum-le F hF Y Z g h s =
+    omega (arith, claim-sum-rel (λ w a b. a ≤ b + w * g) Y Z (λ w. omega arith) more F s, mul-le-mul-right g hF)
   where
     more : (f w a b s : ℕ) → a ≤ b + w * g → f * Y s + a ≤ f * Z s + b + (f + w) * g
     more f w a b s l = omega (arith, simp mul-add at (mul-le-mul-left f (h s)), add-mul f w g)
@@ -155,16 +155,44 @@ mixture-le P a b B hP ha hb =
       ap (λ (n : ℕ). n * B) (sub-add-cancel hP),
     )
 
--- A month's value is at most the largest value that it reads: the level above of the quiet row, and the levels below that of the claimed row.
+-- a mixture keeps how far its two numbers lie above two others
+pub mixture-keeps : (P a b a′ b′ g : ℕ) → P ≤ S → a ≤ a′ + g → b ≤ b′ + g → (S - P) * a + P * b ≤ (S - P) * a′ + P * b′ + S * g
+mixture-keeps P a b a′ b′ g hP ha hb =
+    omega (
+      arith,
+      simp mul-add at (mul-le-mul-left (S - P) ha),
+      simp mul-add at (mul-le-mul-left P hb),
+      mixture-le P g g g hP (le-refl g) (le-refl g),
+    )
+
+-- A month's exact value is at most the largest value that it reads: the level above of the quiet row, and the levels below that of the claimed row.
+pub exact-month-le :
+    (F : List ℕ) → total F ≤ S → (P : ℕ) → P ≤ S → (X Y : Row) (B s : ℕ) →
+    X (s + gain) ≤ B → ((r : ℕ) → r < s + gain → Y r ≤ B) → exact-month F P X Y s ≤ S * (S * B)
+unfolding exact-month
+exact-month-le F hF P hP X Y B s hX hY =
+    rw (mul-assoc (S - P) S (X (s + gain)))
+    (mixture-le P (S * X (s + gain)) (claim-sum F Y (s + gain)) (S * B) hP (mul-le-mul-left S hX)
+    (le-trans (claim-sum-bound F Y B (s + gain) hY) (mul-le-mul-right B hF)))
+
+-- So is its value, whichever way it is rounded.
 pub month-le :
     (round : Rounding) (F : List ℕ) → total F ≤ S → (P : ℕ) → P ≤ S → (X Y : Row) (B s : ℕ) →
     X (s + gain) ≤ B → ((r : ℕ) → r < s + gain → Y r ≤ B) → month round F P X Y s ≤ B
-unfolding month exact-month
+unfolding month
 month-le round F hF P hP X Y B s hX hY =
-    quotient-le round _ (S * S) B square-positive
-    (rw (mul-assoc S S B, mul-assoc (S - P) S (X (s + gain)))
-    (mixture-le P (S * X (s + gain)) (claim-sum F Y (s + gain)) (S * B) hP (mul-le-mul-left S hX)
-    (le-trans (claim-sum-bound F Y B (s + gain) hY) (mul-le-mul-right B hF))))
+    quotient-le round _ (S * S) B square-positive (rw (mul-assoc S S B) (exact-month-le F hF P hP X Y B s hX hY))
+
+-- Rows that are at most g above others have an exact value of at most g above theirs.
+pub exact-month-keeps :
+    (F : List ℕ) → total F ≤ S → (P : ℕ) → P ≤ S → (X Y X′ Y′ : Row) (g : ℕ) → ((s : ℕ) → X s ≤ X′ s + g) → ((s : ℕ) → Y s ≤ Y′ s + g) →
+    (s : ℕ) → exact-month F P X Y s ≤ exact-month F P X′ Y′ s + S * (S * g)
+unfolding exact-month
+exact-month-keeps F hF P hP X Y X′ Y′ g hX hY s =
+    rw (mul-assoc (S - P) S (X (s + gain)), mul-assoc (S - P) S (X′ (s + gain)))
+    (mixture-keeps P (S * X (s + gain)) (claim-sum F Y (s + gain)) (S * X′ (s + gain)) (claim-sum F Y′ (s + gain)) (S * g) hP
+    (simp mul-add at (mul-le-mul-left S (hX (s + gain))))
+    (claim-sum-le F hF Y Y′ g hY (s + gain)))
 
 -- A month from the claim sum's quotient A by S and what is left over, R.
 module _ (round : Rounding) (P X A R : ℕ) where
@@ -252,21 +280,10 @@ pub month-gap-live :
     (F : List ℕ) → total F ≤ S → (P : ℕ) → P ≤ S → (X Y X′ Y′ : Row) (g : ℕ) →
     ((s : ℕ) → X′ s ≤ X s + g) → ((s : ℕ) → Y′ s ≤ Y s + g) →
     (s : ℕ) → month Up F P X′ Y′ s ≤ month Down F P X Y s + (g + month-gap)
-unfolding month exact-month
+unfolding month
 month-gap-live F hF P hP X Y X′ Y′ g hX hY s =
     quotient-gap (exact-month F P X Y s) (exact-month F P X′ Y′ s) (S * S) g square-positive
-    (omega (
-      arith,
-      simp (mul-add, mul-assoc) at (mul-le-mul-left ((S - P) * S) (hX (s + gain))),
-      simp mul-add at (mul-le-mul-left P claims),
-      mul-assoc (S - P) S (X (s + gain)),
-      mul-assoc (S - P) S (X′ (s + gain)),
-      mul-assoc S S g,
-      mixture-le P (S * g) (S * g) (S * g) hP (le-refl (S * g)) (le-refl (S * g)),
-    ))
-  where
-    claims : claim-sum F Y′ (s + gain) ≤ claim-sum F Y (s + gain) + S * g
-    claims = omega (arith, claim-sum-le F Y′ Y g hY (s + gain), mul-le-mul-right g hF)
+    (rw (mul-assoc S S g) (exact-month-keeps F hF P hP X′ Y′ X Y g hX hY s))
 
 -- … and no further above it in a month with chance 0.
 pub month-gap-idle :

@@ -1,7 +1,7 @@
 -- Laws of a rounded quotient, over the rounding and the divisor.
 use mathlib.Core.Path.{_≡_, sym, _∙_, ap}
 use Prim.Native.Nat.{ℕ, suc, _+_, _*_, _-_, _/_, _≤_, _<_}
-use native.Mathlib.Nat.{le-refl, le-trans, le-of-suc-le-suc, lt-of-mul-lt-mul-right, add-le-add, add-assoc, add-comm, mul-le-mul-left, mul-add, mul-comm, mul-sub, mul-one, suc-mul, div-le-of-le-mul, div-mul-le-self, div-add-mod, mod-lt, lt-mul-div-succ, mul-div-right, mul-add-div-right, div-div-eq-div-mul}
+use native.Mathlib.Nat.{le-refl, le-trans, le-of-suc-le-suc, lt-of-mul-lt-mul-right, add-le-add, add-assoc, add-comm, mul-le-mul-left, mul-add, mul-comm, mul-sub, mul-one, suc-mul, div-le-of-le-mul, div-mul-le-self, div-add-mod, mod-lt, lt-mul-div-succ, mul-div-right, mul-add-div-right, add-mul-div-left, le-div-iff-mul-le, div-div-eq-div-mul}
 use native.Mathlib.Omega.{arith}
 use Rattle.model.specs.declared.Rounding.{Rounding}
 use Rattle.model.specs.declared.Rounding.the-variants.{Down, Up}
@@ -64,11 +64,21 @@ unfolding quotient
 quotient-whole a b d h some l =
     rw (mul-div-right a some) (le-trans (quotient-le Up (d * b) d b some (le-refl (d * b))) l)
 
+-- the quotient of a larger number is no smaller
+rises : (x y d : ℕ) → 0 < d → x ≤ y → x / d ≤ y / d
+rises x y d some l = le-div-iff-mul-le some .1 (le-trans (div-mul-le-self x d) l)
+
 -- what is a whole number of divisors is divided apart from the rest
 pub quotient-add : (round : Rounding) (x y d : ℕ) → 0 < d → quotient round (x * d + y) d ≡ x + quotient round y d
 unfolding quotient
 quotient-add Down x y d some = mul-add-div-right some x y
 quotient-add Up x y d some = rw (add-assoc (x * d) y (d - 1)) (mul-add-div-right some x (y + (d - 1)))
+
+-- a number that is at most another and k divisors has a quotient of at most the other's and k
+pub quotient-moves : (round : Rounding) (x y d k : ℕ) → 0 < d → x ≤ y + d * k → quotient round x d ≤ quotient round y d + k
+unfolding quotient
+quotient-moves Down x y d k some l = rw (← add-mul-div-left y k some) (rises x (y + d * k) d some l)
+quotient-moves Up x y d k some l = rw (← add-mul-div-left (y + (d - 1)) k some) (rises (x + (d - 1)) (y + (d - 1) + d * k) d some (omega arith))
 
 -- a quotient by d divided by e, rounded the same way, is the quotient by d × e rounded once
 pub quotient-twice : (round : Rounding) (z d e : ℕ) → 0 < d → 0 < e → quotient round (quotient round z d) e ≡ quotient round z (d * e)

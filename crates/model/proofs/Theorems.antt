@@ -44,7 +44,7 @@ use Rattle.model.proofs.Tail.{ruins-then, all-fails}
 abbrev pub rows-read : Rounding → Plan → Question → (ℕ → Row) → List ℕ → ℕ → Row
 rows-read round p q last later k = kept (rule-of q .allowed) (values (month round (p .severity)) (rule-of q) last later k)
 
-positive : (n : ℕ) → 0 < S ^ n
+pub positive : (n : ℕ) → 0 < S ^ n
 positive n = one-le-pow n S scale-positive
 
 -- the lower bound is at most the upper one
@@ -61,7 +61,7 @@ carried-is one-month p i row =
     ap (λ (n : ℕ). values one-month (rule-of Survive) (λ k. row) (take n (p .chances)) 0 (p .opening)) index
 
 -- S^(2n) from the months before a month, that month and the months after it
-months-around : (i n : ℕ) → i < n → S ^ (2 * i) * S * (S ^ (2 * (n - suc i)) * S) ≡ S ^ (2 * n)
+pub months-around : (i n : ℕ) → i < n → S ^ (2 * i) * S * (S ^ (2 * (n - suc i)) * S) ≡ S ^ (2 * n)
 months-around i n l =
     mul-assoc (S ^ (2 * i)) S (S ^ (2 * (n - suc i)) * S)
     ∙ ap (λ (x : ℕ). S ^ (2 * i) * (S * x)) (mul-comm (S ^ (2 * (n - suc i))) S)
@@ -91,22 +91,22 @@ module _ (h : Head) (row : List ℕ) (accepted : Accepted h row) where
   abbrev p : Plan
   p = plan-of h row
 
-  weights-add : total (p .severity) + p .tail ≡ S
+  pub weights-add : total (p .severity) + p .tail ≡ S
   weights-add = facts h row accepted .weights-add
 
-  weights-fit : total (p .severity) + p .tail ≤ S
+  pub weights-fit : total (p .severity) + p .tail ≤ S
   weights-fit = omega (arith, weights-add)
 
-  chances-fit : (i : ℕ) → getD (p .chances) i 0 ≤ S
+  pub chances-fit : (i : ℕ) → getD (p .chances) i 0 ≤ S
   unfolding plan-of
   chances-fit = take-fits S (h .months) row (facts h row accepted .numbers-fit)
 
-  chance-fits : (t : ℕ) → nth (p .chances) t ≤ S
+  pub chance-fits : (t : ℕ) → nth (p .chances) t ≤ S
   unfolding nth
   chance-fits zero = omega arith
   chance-fits (suc i) = chances-fit i
 
-  severity-fits : total (p .severity) ≤ S
+  pub severity-fits : total (p .severity) ≤ S
   severity-fits = omega (arith, weights-add)
 
   -- Demand 2: unrounded, the month rule is W, the weight of the histories that keep the question's condition …
@@ -179,7 +179,7 @@ module _ (h : Head) (row : List ℕ) (accepted : Accepted h row) where
       weight-is p (λ _. true)
       ∙ weigh-all (p .severity) (p .tail) weights-add (p .chances) chances-fit
 
-  one-month-more : (t : ℕ) → 0 < t → t ≤ horizon p → months-to p t ≡ take (t - 1) (p .chances) ++ nth (p .chances) t ∷ []
+  pub one-month-more : (t : ℕ) → 0 < t → t ≤ horizon p → months-to p t ≡ take (t - 1) (p .chances) ++ nth (p .chances) t ∷ []
   unfolding nth
   one-month-more zero some l = absurd (omega arith)
   one-month-more (suc i) some l = let index : suc i - 1 ≡ i = omega arith in rw index (take-suc (p .chances) i 0 l)

@@ -32,43 +32,62 @@ kept-rel R nothing allowed X X′ s h = go (allowed s)
     go true = h
     go false = nothing
 
--- A relation between the values of two month rules, which may speak of the chances still to come: if it holds of 0 and of the last row, and
--- each month keeps it, then it holds of all values.
+-- A relation between the values of two month rules, each with its own chances, which may speak of the chances still to come: if it holds of 0 and of the last
+-- rows, and each month keeps it where its two chances are as they should be, then it holds of all values.
 module _
-    (R : List ℕ → ℕ → ℕ → Type 0)
+    (R : List ℕ → List ℕ → ℕ → ℕ → Type 0)
+    (Fit : ℕ → ℕ → Type 0)
     (m₁ m₂ : Month)
     (q : Rule)
     (last₁ last₂ : ℕ → Row)
-    (nothing : (Ps : List ℕ) → R Ps 0 0)
-    (last : (k s : ℕ) → R [] (last₁ k s) (last₂ k s))
+    (nothing : (Ps Ps′ : List ℕ) → R Ps Ps′ 0 0)
+    (last : (k s : ℕ) → R [] [] (last₁ k s) (last₂ k s))
     (month-keeps :
-    (P : ℕ) (Ps : List ℕ) → P ≤ S → (X Y X′ Y′ : Row) →
-    ((s : ℕ) → R Ps (X s) (X′ s)) → ((s : ℕ) → R Ps (Y s) (Y′ s)) →
-    (s : ℕ) → R (P ∷ Ps) (m₁ P X Y s) (m₂ P X′ Y′ s))
+    (P P′ : ℕ) (Ps Ps′ : List ℕ) → Fit P P′ → (X Y X′ Y′ : Row) →
+    ((s : ℕ) → R Ps Ps′ (X s) (X′ s)) → ((s : ℕ) → R Ps Ps′ (Y s) (Y′ s)) →
+    (s : ℕ) → R (P ∷ Ps) (P′ ∷ Ps′) (m₁ P X Y s) (m₂ P′ X′ Y′ s))
   where
     claimed-rel :
-        (Ps : List ℕ) (X X′ : ℕ → Row) → ((k s : ℕ) → R Ps (X k s) (X′ k s)) →
-        (o : Option ℕ) (s : ℕ) → R Ps (claimed-row X o s) (claimed-row X′ o s)
+        (Ps Ps′ : List ℕ) (X X′ : ℕ → Row) → ((k s : ℕ) → R Ps Ps′ (X k s) (X′ k s)) →
+        (o : Option ℕ) (s : ℕ) → R Ps Ps′ (claimed-row X o s) (claimed-row X′ o s)
     unfolding claimed-row
-    claimed-rel Ps X X′ h none s = nothing Ps
-    claimed-rel Ps X X′ h (some k) s = h k s
+    claimed-rel Ps Ps′ X X′ h none s = nothing Ps Ps′
+    claimed-rel Ps Ps′ X X′ h (some k) s = h k s
 
-    pub month-back-rel :
-        (P : ℕ) (Ps : List ℕ) → P ≤ S → (N N′ : ℕ → Row) → ((k s : ℕ) → R Ps (N k s) (N′ k s)) →
-        (k s : ℕ) → R (P ∷ Ps) (month-back m₁ q P N k s) (month-back m₂ q P N′ k s)
+    month-back-rel :
+        (P P′ : ℕ) (Ps Ps′ : List ℕ) → Fit P P′ → (N N′ : ℕ → Row) → ((k s : ℕ) → R Ps Ps′ (N k s) (N′ k s)) →
+        (k s : ℕ) → R (P ∷ Ps) (P′ ∷ Ps′) (month-back m₁ q P N k s) (month-back m₂ q P′ N′ k s)
     unfolding month-back
-    month-back-rel P Ps hP N N′ h k =
-        month-keeps P Ps hP _ _ _ _ (rows k)
-        (claimed-rel Ps (λ j. kept (q .allowed) (N j)) (λ j. kept (q .allowed) (N′ j)) rows (q .after-claim k))
+    month-back-rel P P′ Ps Ps′ fit N N′ h k =
+        month-keeps P P′ Ps Ps′ fit _ _ _ _ (rows k)
+        (claimed-rel Ps Ps′ (λ j. kept (q .allowed) (N j)) (λ j. kept (q .allowed) (N′ j)) rows (q .after-claim k))
       where
-        rows : (j s : ℕ) → R Ps (kept (q .allowed) (N j) s) (kept (q .allowed) (N′ j) s)
-        rows j s = kept-rel (R Ps) (nothing Ps) (q .allowed) (N j) (N′ j) s (h j s)
+        rows : (j s : ℕ) → R Ps Ps′ (kept (q .allowed) (N j) s) (kept (q .allowed) (N′ j) s)
+        rows j s = kept-rel (R Ps Ps′) (nothing Ps Ps′) (q .allowed) (N j) (N′ j) s (h j s)
 
-    pub values-rel : (Ps : List ℕ) → ((i : ℕ) → getD Ps i 0 ≤ S) → (k s : ℕ) → R Ps (values m₁ q last₁ Ps k s) (values m₂ q last₂ Ps k s)
+    pub values-rel-pair :
+        (Ps Ps′ : List ℕ) → length Ps ≡ length Ps′ → ((i : ℕ) → Fit (getD Ps i 0) (getD Ps′ i 0)) →
+        (k s : ℕ) → R Ps Ps′ (values m₁ q last₁ Ps k s) (values m₂ q last₂ Ps′ k s)
     unfolding values
-    values-rel [] h k s = last k s
-    values-rel (P ∷ Ps) h k s =
-        month-back-rel P Ps (h 0) (values m₁ q last₁ Ps) (values m₂ q last₂ Ps) (values-rel Ps (λ i. h (suc i))) k s
+    values-rel-pair [] [] e fit k s = last k s
+    values-rel-pair [] (P′ ∷ Ps′) e fit k s = absurd (omega arith)
+    values-rel-pair (P ∷ Ps) [] e fit k s = absurd (omega arith)
+    values-rel-pair (P ∷ Ps) (P′ ∷ Ps′) e fit k s =
+        month-back-rel P P′ Ps Ps′ (fit 0) (values m₁ q last₁ Ps) (values m₂ q last₂ Ps′)
+        (values-rel-pair Ps Ps′ (omega arith) (λ i. fit (suc i))) k s
+
+-- over the same chances
+pub values-rel :
+    (R : List ℕ → ℕ → ℕ → Type 0) (m₁ m₂ : Month) (q : Rule) (last₁ last₂ : ℕ → Row) →
+    ((Ps : List ℕ) → R Ps 0 0) → ((k s : ℕ) → R [] (last₁ k s) (last₂ k s)) →
+    ((P : ℕ) (Ps : List ℕ) → P ≤ S → (X Y X′ Y′ : Row) →
+    ((s : ℕ) → R Ps (X s) (X′ s)) → ((s : ℕ) → R Ps (Y s) (Y′ s)) →
+    (s : ℕ) → R (P ∷ Ps) (m₁ P X Y s) (m₂ P X′ Y′ s)) →
+    (Ps : List ℕ) → ((i : ℕ) → getD Ps i 0 ≤ S) → (k s : ℕ) → R Ps (values m₁ q last₁ Ps k s) (values m₂ q last₂ Ps k s)
+values-rel R m₁ m₂ q last₁ last₂ nothing last month-keeps Ps hP =
+    values-rel-pair (λ Qs Qs′ a b. R Qs a b) (λ P P′. (P ≡ P′) × (P ≤ S)) m₁ m₂ q last₁ last₂ (λ Qs Qs′. nothing Qs) last
+    (λ P P′ Qs Qs′ fit X Y X′ Y′ hx hy s. rw (← fit .0) (month-keeps P Qs (fit .1) X Y X′ Y′ hx hy s))
+    Ps Ps refl (λ i. (refl, hP i))
 
 -- a limit of a list's numbers is one of its first
 pub take-fits : (B n : ℕ) (xs : List ℕ) → ((i : ℕ) → getD xs i 0 ≤ B) → (i : ℕ) → getD (take n xs) i 0 ≤ B

@@ -12,6 +12,7 @@ pub mod FilledSizes
 pub mod CountRow
 pub mod FirstClaim
 pub mod Bounds
+pub mod Sensitivity
 pub mod Format
 pub mod Refusal
 pub mod Figures
