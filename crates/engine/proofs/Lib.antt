@@ -4,6 +4,3 @@ pub mod AskLaws
 pub mod AnswerLaws
 -- the count row
 mod CountLaws
--- what a call that was not refused answers, and several calls together
-pub mod Theorems
-pub mod TwoCalls

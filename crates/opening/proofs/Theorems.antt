@@ -1,9 +1,9 @@
 -- What the call's answer says, of every plan, target and workspace: the clauses of its contract, from the definition.
 use Prim.Native.Nat.{ℕ, zero, suc, _+_, _*_, _-_, _≤_, _<_}
 use mathlib.Core.Path.{_≡_, refl, sym, _∙_, ap, fun-ext}
-use mathlib.Core.Bool.{Bool, true, false, not, cond}
+use mathlib.Core.Bool.{Bool, true, false, cond}
 use mathlib.Core.List.{List, [], _∷_, _++_}
-use native.Mathlib.Nat.{mul-one, le-trans}
+use native.Mathlib.Nat.{mul-one}
 use native.Mathlib.Omega.{arith}
 use lib.Dec.{leb, ltb, eqb}
 use lib.ListN.{length, take, drop, replicate}
@@ -20,13 +20,11 @@ use Rattle.model.specs.Levels.{row-levels}
 use Rattle.model.specs.Exact.{exact}
 use Rattle.model.specs.MonthRule.{month, opening-allowed}
 use Rattle.model.specs.Bounds.{bound, lower, upper, Encloses}
-use Rattle.model.specs.Sensitivity.{OnlyOpeningGrows}
 use Rattle.model.specs.Refusal.{first, head-checks, length-check, number-checks, plan-checks, asked-checks, bounds-checks, bounds-refusal, Accepted, outside, rows-needed, workspace-needed, survival-workspace}
 use Rattle.model.proofs.LevelLaws.{level-from}
 use Rattle.model.proofs.Facts.{neither, not-zero, numbered, none-fits, none-fits-append, first-append, first-below, opened-accepted}
 use Rattle.model.proofs.Opening.{value-allowed}
 use Rattle.model.proofs.Theorems.{enclosure}
-use Rattle.model.proofs.TwoPlans.{survival-rises}
 use Rattle.engine.specs.declared.Answer.{Answer}
 use Rattle.engine.specs.Answers.{bounds-answer, cleared-after, answer}
 use Rattle.engine.proofs.AnswerLaws.{severity-lent}
@@ -191,16 +189,10 @@ module _ (h : Head) (row : List ℕ) (target room : ℕ) where
   pub answer-is-least : least-answer h row target room .refusal ≡ 0 → Least h row target room (least-answer h row target room)
   answer-is-least e = let a = answered e in rw (a .is-found) (found-is-least (a .unrefused) (a .allowed))
 
-  -- Document 02, of openings: "neither survival bound falls when the opening grows", so every larger one that is allowed would do as well.
-  pub larger-would-do :
-      least-answer h row target room .refusal ≡ 0 → (v : ℕ) → least-answer h row target room .opening ≤ v → v ≤ h .opening →
-      target ≤ answer (opening-ask h v) row room .lower
-  unfolding found bounds-answer plan-of
-  larger-would-do e v l m =
-      let a = answered e in
-      let grows : OnlyOpeningGrows (plan-of (opened h (least-opening h row target)) row) (plan-of (opened h v) row) =
-      record { opening = rw (a .is-found) at l; chances = refl; severity = refl; tail = refl } in
-      rw (asked-with (a .unrefused) v m) (le-trans (found-is-least (a .unrefused) (a .allowed) .enough) (survival-rises _ _ grows Down))
+  -- and asking with any opening that is allowed is not refused
+  pub allowed-answered : least-answer h row target room .refusal ≡ 0 → (v : ℕ) → v ≤ h .opening → answer (opening-ask h v) row room .refusal ≡ 0
+  unfolding bounds-answer
+  allowed-answered e v l = ap (λ (a : Answer). a .refusal) (asked-with (answered e .unrefused) v l)
 
   -- "exactly if no opening from 0 to the largest reaches the target", where no other check fits: 15 says so …
   only-none : (n : ℕ) (b : Bool) → n < 15 → cond (eqb n 0) (cond b 15 0) n ≡ 15 → (n ≡ 0) × (b ≡ true)

@@ -15,10 +15,10 @@ use Rattle.model.specs.Exact.{exact, exact-ruin, exact-count}
 use Rattle.model.specs.Bounds.{months-to}
 use Rattle.model.specs.Sensitivity.{OnlyChancesDiffer, OnlyOpeningGrows, distance, chances-apart, Moves}
 use Rattle.model.proofs.TwoPlans.{question-moves, bounds-move, ruin-moves, ruin-bounds-move, count-moves, count-bounds-move, survival-rises}
 use Rattle.engine.specs.declared.Answer.{Answer}
 use Rattle.engine.specs.declared.CountRow.{CountRow}
 use Rattle.engine.specs.Answers.{answer, ruin-answer, count-answer}
-use Rattle.engine.proofs.Theorems.{Answered, answered, RuinAnswered, ruin-answered, CountAnswered, count-answered}
+use Rattle.calls.proofs.Answered.{Answered, answered, RuinAnswered, ruin-answered, CountAnswered, count-answered}
 
 -- what holds of the definitions' numbers holds of the answered ones
 as-answered : (R : ℕ → ℕ → Type 0) {a a′ b b′ : ℕ} → a ≡ b → a′ ≡ b′ → R b b′ → R a a′
@@ -36,7 +36,7 @@ bounds-as-answered c el el′ eh eh′ lows highs = (
   as-answered (λ x y. distance x y ≤ c) eh eh′ highs,
 )
 
-abbrev question-ask : Head → Question → Ask
+abbrev pub question-ask : Head → Question → Ask
 question-ask h q = record { head = h; question = q }
 
 module _ (h : Head) (row : List ℕ) (h′ : Head) (row′ : List ℕ) where

@@ -1,0 +1,1 @@
+// No code: laws of the numbers that several calls answer, in proofs/.
