@@ -1,6 +1,7 @@
 //! Documents 01 and 02 as a plain Rust program: plan bytes on standard input, the reserve report on standard output. With the argument `sheet`: a
 //! rule sheet on standard input, its plan bytes on standard output or, on standard error, the number that turns it away. With the arguments `least`
-//! and a target: plan bytes on standard input, the least opening that reaches it and its bounds on standard output. With the argument `moves`: the
+//! and a target: plan bytes on standard input, the least opening that reaches it and its bounds on standard output. With the argument `openings`:
+//! plan bytes on standard input, the bounds of survival at each opening from 0 to the plan's on standard output. With the argument `moves`: the
 //! bytes of two plans that differ only in their chances, one after the other, on standard input, how far each line of their reports moves on
 //! standard output.
 //!
@@ -9,7 +10,7 @@
 //! Written from these documents alone, not from the engine or its definitions. It has the rows and the order of work of these documents: two rows
 //! of u + n + 1 numbers for an answer, k + 1 times that for both k, each replaced in place month by month, from the highest level down, and the
 //! claim sum from the largest size down. The least opening takes one walk over the lower row for all openings and, for the one found, one over
-//! the upper row.
+//! the upper row; all openings take one walk over each row.
 use std::fmt::{Display, Write as _};
 use std::io::{self, Read, Write as _};
 use std::{env, iter};
@@ -292,15 +293,15 @@ fn count_row(plan: &Plan, add: u64) -> [u32; MONTHS + 1] {
     row
 }
 
-// ---- The least opening that is good enough
+// ---- The least opening that is good enough, and all openings
 
-/// The lower bounds of the openings 0 to the plan's, by one walk for all of them. "The work is given up in the month when no level reaches the
-/// target any more": what stands there of these openings is below the target too.
-fn lower_bounds(plan: &Plan, target: u64) -> Vec<u32> {
+/// Survival in one rounding at the openings 0 to the plan's, by one walk for all of them. "The work is given up in the month when no level reaches
+/// the target any more", which a target of 0 never is: what stands there of these openings is below the target too.
+fn opening_values(plan: &Plan, add: u64, target: u64) -> Vec<u32> {
     let months = plan.chances.len();
     let mut row = vec![S as u32; plan.opening + months + 1];
     'months: for t in (1..=months).rev() {
-        month_of(plan, Question::Survive, t, ROUNDINGS[0], &mut row);
+        month_of(plan, Question::Survive, t, add, &mut row);
         let levels = &row[..plan.opening + t];
         if levels.iter().all(|&value| u64::from(value) < target) {
             break 'months;
@@ -315,7 +316,7 @@ fn least_opening(plan: Plan, target: u64) -> Result<(usize, [u32; 2]), u32> {
     if target == 0 || target > S {
         return Err(14);
     }
-    let lowers = lower_bounds(&plan, target);
+    let lowers = opening_values(&plan, ROUNDINGS[0], target);
     let opening = lowers.iter().position(|&lower| u64::from(lower) >= target).ok_or(15u32)?;
     let mut row = vec![0; opening + plan.chances.len() + 1];
     let upper = value(&Plan { opening, ..plan }, Question::Survive, ROUNDINGS[1], &mut row);
@@ -329,11 +330,20 @@ fn target_of(word: &str) -> Option<u64> {
     number.flatten()
 }
 
-fn least_line(bytes: &[u8], target: u64) -> String {
-    match read(bytes).and_then(|plan| least_opening(plan, target)) {
-        Ok((opening, [lower, upper])) => format!("opening {opening} {lower} {upper}\n"),
-        Err(number) => format!("refused {number}\n"),
+fn least_line(plan: Plan, target: u64) -> Result<String, u32> {
+    let (opening, pair) = least_opening(plan, target)?;
+    let mut text = String::new();
+    put(&mut text, "opening", Some(opening), pair);
+    Ok(text)
+}
+
+fn openings_text(plan: &Plan) -> String {
+    let [lowers, uppers] = ROUNDINGS.map(|add| opening_values(plan, add, 0));
+    let mut text = String::new();
+    for (opening, (lower, upper)) in lowers.into_iter().zip(uppers).enumerate() {
+        put(&mut text, "opening", Some(opening), [lower, upper]);
     }
+    text
 }
 
 // ---- The reserve report
@@ -407,6 +417,12 @@ fn moves_text(bytes: &[u8]) -> String {
     moves(&one, &other)
 }
 
+/// A refused plan is an answer, too.
+fn print(text: Result<String, u32>) -> io::Result<()> {
+    let text = text.unwrap_or_else(|number| format!("refused {number}\n"));
+    io::stdout().write_all(text.as_bytes())
+}
+
 fn main() -> io::Result<()> {
     let mut bytes = Vec::new();
     io::stdin().read_to_end(&mut bytes)?;
@@ -417,16 +433,11 @@ fn main() -> io::Result<()> {
             Err(number) => writeln!(io::stderr(), "refused {number}"),
         },
         Some("least") => match words.next().as_deref().and_then(target_of) {
-            Some(target) => io::stdout().write_all(least_line(&bytes, target).as_bytes()),
+            Some(target) => print(read(&bytes).and_then(|plan| least_line(plan, target))),
             None => writeln!(io::stderr(), "a target is a whole number"),
         },
-        Some("moves") => io::stdout().write_all(moves_text(&bytes).as_bytes()),
-        _ => {
-            let text = match read(&bytes) {
-                Ok(plan) => report(&plan),
-                Err(number) => format!("refused {number}\n"),
-            };
-            io::stdout().write_all(text.as_bytes())
-        }
+        Some("openings") => print(read(&bytes).map(|plan| openings_text(&plan))),
+        Some("moves") => print(Ok(moves_text(&bytes))),
+        _ => print(read(&bytes).map(|plan| report(&plan))),
     }
 }

@@ -5,10 +5,10 @@ from collections import namedtuple
 
 from plans import EXAMPLE, EXAMPLE_BYTES, ONE_SIZE, WORKED, changed, flat, flipped, gapped, geometric, lasting_plan, long_plans, questions
 from plans import some_chance, some_plan, split, timed_plans
-from records import FULL_NUMBER, Calls
+from records import BOUNDS, FULL_NUMBER, Calls
 from rules import CLAIMS, HEAD_BYTES, LARGEST, LEVEL, MONTHS, NUMBER_BITS, OPENING, SIZES, SURVIVE, WIDTHS, Head, Question, S
-from rules import all_months, bit_length, byte_length, down, month_rule, opened, plan_checks, plan_of, refusal, row_length, workspace_needed
-from rules import write_bytes
+from rules import all_months, all_openings, bit_length, byte_length, down, month_rule, opened, places_needed, plan_checks, plan_of, refusal
+from rules import row_length, workspace_needed, write_bytes
 
 FULL = 2**64 - 1  # the largest number of a head or a question
 WIDEST = Head(*(2**width - 1 for width in WIDTHS))  # what a head's fields can say
@@ -210,7 +210,7 @@ def bound_edges():
     """At the bounds of every opening: over above 0 at m + 1 = u + n, an opening of 0, and one month with all openings."""
     tailed, lone = (Head(3, 2, 4), [S // 3] * 3 + geometric(4)), (Head(2, 0, 3), [S // 5, S // 7] + geometric(3))
     for head, row in (EXAMPLE, BRIEF, tailed, lone):
-        for target in targets_at_bounds(head, row, range(head.opening + 1)):
+        for target in targets_at_bounds(head, row, all_openings(head)):
             yield Ask(head, row, least(target))
     head, row = Head(1, OPENING, OPENING), [S] + geometric(OPENING)
     for target in targets_at_bounds(head, row, (0, 9, OPENING - 1, OPENING)):
@@ -266,14 +266,81 @@ def long_targets(rng):
         yield Ask(head, row, least(target))
 
 
+def some_plans(rng):
+    """Small and middle ones."""
+    for _ in range(12):
+        yield some_plan(rng, rng.randrange(1, 5), rng.randrange(5), rng.randrange(1, 8))
+    for _ in range(8):
+        yield lasting_plan(rng, rng.randrange(1, 6), rng.randrange(1, 8), rng.randrange(2, 9))
+    for _ in range(6):
+        yield lasting_plan(rng, rng.randrange(8, 20), rng.randrange(8, 20), rng.randrange(5, 20))
+
+
 def random_targets(rng):
-    """Small and middle plans: at and past the bounds of an opening, and anywhere."""
-    small = (some_plan(rng, rng.randrange(1, 5), rng.randrange(5), rng.randrange(1, 8)) for _ in range(12))
-    lasting = (lasting_plan(rng, rng.randrange(1, 6), rng.randrange(1, 8), rng.randrange(2, 9)) for _ in range(8))
-    middle = (lasting_plan(rng, rng.randrange(8, 20), rng.randrange(8, 20), rng.randrange(5, 20)) for _ in range(6))
-    for head, row in itertools.chain(small, lasting, middle):
+    """At and past the bounds of an opening, and anywhere."""
+    for head, row in some_plans(rng):
         for target in (*targets_at_bounds(head, row, [rng.randint(0, head.opening)]), rng.randint(1, S)):
             yield Ask(head, row, least(target))
+
+
+# ---- All openings
+
+Openings = namedtuple("Openings", "head row room places fill", defaults=[FULL_NUMBER])  # the lengths lent, of the workspace and of the row
+
+
+def lent(plan, more=0, longer=0, fill=FULL_NUMBER):
+    """A call with so many numbers of workspace more than are needed, and so many of the lent row; never more than can be lent."""
+    head, row = plan
+    room, places = workspace_needed(head, SURVIVE) + more, places_needed(head) + longer
+    return Openings(head, row, min(room, ENOUGH), min(places, BOUNDS), fill)
+
+
+def openings_edges():
+    """The funds worked by hand and every edge of heads, rows and tails, in memory that is just long enough."""
+    worked = (plan for plan, _ in itertools.groupby((head, row) for head, row, *_ in WORKED))
+    return map(lent, itertools.chain(worked, head_edges(), row_edges(), tail_edges()))
+
+
+def telling_openings():
+    """Much over, at m + 1 = u + n and one below; survival that starts at one opening, 1 or n + 1; bounds that are far apart."""
+    for n, u, m in ((3, 2, 4), (3, 2, 3), (5, 40, 44), (5, 40, 43), (0, 5, 4), (0, 6, 4)):
+        yield lent((Head(n, u, m), [S // 3] * n + geometric(m)))
+    yield lent((Head(6, 4, 1), [S] * 6 + ONE_SIZE))
+    yield lent((Head(4, 6, 2), [S] * 4 + [0, S, 0]))
+    for head, row in rounding_plans():
+        if head.months == MONTHS and head.opening == 2:
+            yield lent((head, row))
+
+
+def lent_edges():
+    """Both lent parts around what is needed, none and far longer ones included; no months, an opening of 0, the most months with the largest
+    opening; dirty ones."""
+    needed, places = workspace_needed(BRIEF[0], SURVIVE), places_needed(BRIEF[0])
+    for more, longer in itertools.product((-needed, -1, 0, 1, 40), (-places, -1, 0, 1, 40)):
+        yield lent(BRIEF, more, longer)
+    for n, u in ((0, 0), (0, 7), (7, 0), (MONTHS, OPENING)):
+        for more, longer in itertools.product((-1, 0, 1), repeat=2):
+            yield lent(flat(n, u, 3), more, longer)
+    for fill, lengths in itertools.product((0, 1, S, 2**31, FULL_NUMBER), ((0, 0), (3, 3), (-1, 3), (3, -1))):
+        yield lent(EXAMPLE, *lengths, fill)
+
+
+def openings_faults():
+    """Calls that two numbers of the table fit, or 11 twice: the earlier one counts. Then each number of a plan with both lent parts too short."""
+    whole = Openings(*BRIEF, ENOUGH, BOUNDS)  # long enough, too, for heads past the limits
+    faults = [*PLAN_FAULTS.values(), lambda call: call._replace(room=0), lambda call: call._replace(places=0)]
+    for one, other in itertools.combinations_with_replacement(faults, 2):
+        yield one(other(whole))
+    for fault in PLAN_FAULTS.values():
+        yield fault(lent(BRIEF, -1, -1))
+
+
+def long_openings(rng):
+    """The most months with few openings, the largest opening with few months, many of both, and the largest plans."""
+    for n, u, m in ((MONTHS, 0, SIZES), (MONTHS, 1, SIZES), (0, OPENING, SIZES), (1, OPENING, SIZES), (MONTHS - 1, 37, 100), (17, 150, 166)):
+        yield some_plan(rng, n, u, m)
+    yield LARGEST, [rng.randrange(1, S // 25) for _ in range(MONTHS)] + geometric(SIZES)
+    yield from timed_plans().values()
 
 
 # ---- Plan bytes
@@ -396,6 +463,22 @@ def add_least_openings(calls, rng):
         add_random_asks(calls, rng, head, row, [question])
 
 
+def add_random_openings(calls, rng, plan):
+    calls.openings(*lent(plan, rng.randrange(3), rng.randrange(3), rng.getrandbits(32)))
+
+
+def add_all_openings(calls, rng):
+    """The last plans that have few openings are asked for each as well, so that the lines stand side by side."""
+    for call in itertools.chain(openings_edges(), telling_openings(), lent_edges(), openings_faults()):
+        calls.openings(*call)
+    for plan in itertools.chain(long_openings(rng), some_plans(rng)):
+        add_random_openings(calls, rng, plan)
+    for head, row in some_plans(rng):
+        add_random_openings(calls, rng, (head, row))
+        for opening in all_openings(head) if head.opening < 6 else ():
+            add_random_asks(calls, rng, head._replace(opening=opening), row, [SURVIVE])
+
+
 def all_calls():
     calls = Calls()
     add_edges(calls)
@@ -405,16 +488,18 @@ def all_calls():
     add_openings(calls)
     add_roundings(calls)
     add_least_openings(calls, random.Random(11))
+    add_all_openings(calls, random.Random(13))
     return calls
 
 
 def repeated_calls(question, times, plan):
-    """One question on a plan, over and over, to time it."""
+    """One question on a plan, or all openings, over and over, to time it."""
     head, row = plan
+    number = places_needed(head) if question.word == "openings" else question.number
     calls = Calls()
     calls.use(row)
     for _ in range(times):
-        calls.record(question.word, head, question.number, workspace_needed(head, question))
+        calls.record(question.word, head, number, workspace_needed(head, question))
     return calls
 
 

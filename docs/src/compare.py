@@ -1,16 +1,19 @@
 #!/usr/bin/env python3
 """Holds two programs for the reserve report against each other, or two that turn rule sheets into plan bytes, or two that find the least opening, or
-how far the lines of one's reports move between two plans against another program and the sum that bounds them.
+two that print the bounds of all openings, or how far the lines of one's reports move between two plans against another program and the sum that
+bounds them.
 
   compare.py PROGRAM REFERENCE [COUNT]
   compare.py --sheets PROGRAM REFERENCE [COUNT]
   compare.py --least PROGRAM REFERENCE [COUNT]
+  compare.py --openings PROGRAM REFERENCE [COUNT]
   compare.py --moves PROGRAM REFERENCE [COUNT]
 
 Makes COUNT (100) random accepted plans or sheets of all sizes and as many damaged ones, always the same, hands each to both programs on standard
 input, and compares what they write on standard output and standard error, byte for byte. For the least opening it does so with several targets,
 each a program's last argument. For moves it makes pairs of accepted plans alike but for their chances: PROGRAM prints the report of each, and REFERENCE
-how far each line moves between them; a line that moves by more than the sum of the chances' differences counts as a difference. A program may be a command of several words, given as one. The last line is the number of differences.
+how far each line moves between them; a line that moves by more than the sum of the chances' differences counts as a difference. A program may be a
+command of several words, given as one. The last line is the number of differences.
 """
 import random
 import shlex
@@ -209,6 +212,7 @@ REPORTS = Matter("plans", "reports", {"accepted": accepted, "damaged": damaged},
 OPTIONS = {
     "--sheets": Matter("sheets", "plans", {"accepted": accepted_sheet, "damaged": some_damaged_sheet}, no_arguments),
     "--least": Matter("plans", "openings", {"accepted": accepted, "damaged": damaged}, some_targets),
+    "--openings": Matter("plans", "lists of openings", {"accepted": accepted, "damaged": damaged}, no_arguments),
     "--moves": Matter("pairs of plans", "within the sum", {"accepted": pair}, no_arguments),
 }
 

@@ -5,10 +5,11 @@ fill, length), then what the kind asks. `row` sets the row that later records us
 row, `number` as k or L and a workspace of `room` numbers that each hold `fill`; `fails` asks in the same way, `number` as the month, and `least`,
 `number` as the target, for the least opening and its bounds. `count` asks for the count row. `claims` takes the claim sum over the row's
 weights, with the first `number` of its chances as the values that claims of size 1, 2, … lead to, and answers its quotient by S, what is left
-over and the number of products. `write` lends `room` bytes and `read` a row of `room` numbers, each holding `fill`; `read` is followed by the
-plan's `length` bytes.
+over and the number of products. `openings` lends a row of `number` numbers, which takes the bounds of all openings, and a workspace of `room`, each
+number holding `fill`. `write` lends `room` bytes and `read` a row of `room` numbers, each holding `fill`; `read` is followed by the plan's
+`length` bytes.
 Its output has a line for each record but `row`: the refusal's number, the numbers answered, and the lent memory after the call where there is any, which
-is the bytes of `write` in hexadecimal and otherwise a checksum.
+is the bytes of `write` in hexadecimal and otherwise a checksum; of `openings` a checksum of the whole lent row and then one of the whole workspace.
 
 `reports` and `tables` read plans one after another: two bytes with a plan's length, most significant first, and its bytes.
 
@@ -19,19 +20,21 @@ lent bytes. `report` prints the reserve report of these plan bytes.
 """
 import itertools
 import math
+from functools import cache
 
-from rules import HEAD_BYTES, LARGEST, MOST_ASKED, NONE, PLACES, S, Head, ask_checks, bounds, byte_length, claim_sum, count_row, down
-from rules import failure_bounds, failure_checks, least_answer, plan_checks, plan_of, read_bytes, read_checks, refusal, report, row_length, up
-from rules import workspace_needed, write_bytes, write_checks
+from rules import HEAD_BYTES, LARGEST, MOST_ASKED, NONE, PLACES, S, SURVIVE, Head, ask_checks, bounds, byte_length, claim_sum, count_row, down
+from rules import failure_bounds, failure_checks, least_answer, opening_pairs, openings_answer, places_needed, plan_checks, plan_of, read_bytes
+from rules import read_checks, refusal, report, row_length, up, walked_pairs, workspace_needed, write_bytes, write_checks
 from sheets import made_bytes, made_plan, sheet_checks
 
-KINDS = ["row", "survive", "both", "high", "low", "count", "write", "read", "fails", "claims", "least"]
+KINDS = ["row", "survive", "both", "high", "low", "count", "write", "read", "fails", "claims", "least", "openings"]
 FULL_NUMBER = 2**32 - 1  # the largest number that a row or a workspace can hold
 
 # The room that the program lends, as in crates/vectors/src/rooms.rt. It passes over a record that needs more.
 SPARE = 6  # numbers more than any call needs
 ROW = row_length(LARGEST) + SPARE
 WORKSPACE = workspace_needed(LARGEST, MOST_ASKED) + SPARE
+BOUNDS = places_needed(LARGEST) + SPARE
 BYTES = 2560
 
 SHEET_KINDS = ["read", "write", "report"]
@@ -69,6 +72,21 @@ def cleared(number):
     return number in (0, NONE)
 
 
+def workspace_after(head, question, number, room, fill):
+    """What a workspace of this room holds after the call."""
+    needed = workspace_needed(head, question) if cleared(number) else 0
+    return [0] * needed + [fill] * (room - needed)
+
+
+LARGE = 10**6  # months × opening × sizes from which one walk for all openings takes the place of asking each
+
+
+@cache
+def pairs_of(plan):
+    """The bounds of all openings, worked once a plan, since many calls differ in their lent memory alone. The plan is one of tuples."""
+    return (walked_pairs if math.prod(plan.head) > LARGE else opening_pairs)(plan)
+
+
 def fitting(needed, capacity):
     if needed > capacity:
         raise ValueError(f"the program has room for {capacity}, the record needs {needed}")
@@ -95,14 +113,21 @@ class Calls:
             self.row = row
 
     def ask(self, head, row, question, room=None, fill=FULL_NUMBER):
-        needed = workspace_needed(head, question)
-        room = needed if room is None else room
+        room = workspace_needed(head, question) if room is None else room
         self.use(row)
         self.record(question.word, head, question.number, fitting(room, WORKSPACE), fill)
         number, *answer = answer_of(head, row, question, room)
-        after = [0] * needed + [fill] * (room - needed) if cleared(number) else [fill] * room
         label = f"{question.word} {question.number} of {tuple(head)}, row of {len(row)}, workspace of {room} holding {fill}"
-        self.answers(label, number, *answer, checksum(after))
+        self.answers(label, number, *answer, checksum(workspace_after(head, question, number, room, fill)))
+
+    def openings(self, head, row, room=None, places=None, fill=FULL_NUMBER):
+        room = workspace_needed(head, SURVIVE) if room is None else room
+        places = places_needed(head) if places is None else places
+        self.use(row)
+        self.record("openings", head, fitting(places, BOUNDS), fitting(room, WORKSPACE), fill)
+        number, lent = openings_answer(head, tuple(row), room, [fill] * places, pairs_of)
+        label = f"openings of {tuple(head)}, row of {len(row)}, lent row of {places} and workspace of {room} holding {fill}"
+        self.answers(label, number, checksum(lent), checksum(workspace_after(head, SURVIVE, number, room, fill)))
 
     def count(self, head, row):
         self.use(row)

@@ -8,8 +8,8 @@ Written from these documents and their sources alone, not from the engine or its
   reference.py plan N U M ROW..   the plan bytes of a head and a row (chances, weights, over) on standard output
   reference.py vectors DIR        DIR/stdin and DIR/stdout of the test program over the calls
   reference.py cases              one line for each line of that stdout: what was called
-  reference.py repeat WORD K N    N times one question, failing in month K or the least opening for the target K, on the largest plan, as that
-                                  program's input, to time it; a last word may name another of the plans below
+  reference.py repeat WORD K N    N times one question, failing in month K, the least opening for the target K or, whatever K, all openings, on the
+                                  largest plan, as that program's input, to time it; a last word may name another of the plans below
   reference.py plans DIR          three plans as large as can be, to time: DIR/none-empty (that plan), DIR/ten-filled, DIR/no-chance
   reference.py example DIR        DIR/stdin and DIR/stdout of the reserve report: document 01's example
   reference.py reports DIR        DIR/stdin and DIR/stdout of many reserve reports, the largest included: takes minutes
@@ -20,6 +20,9 @@ Written from these documents and their sources alone, not from the engine or its
   reference.py sheet-example DIR  DIR/stdin and DIR/stdout of the program that turns a rule sheet into plan bytes
   reference.py least TARGET       plan bytes on standard input, the least opening that reaches the target and its bounds on standard output
   reference.py least-example DIR  DIR/stdin, DIR/args and DIR/stdout of the program that finds the least opening
+  reference.py openings           plan bytes on standard input, the bounds of survival at each opening up to the plan's on standard output
+  reference.py openings-example DIR
+                                  DIR/stdin and DIR/stdout of the program that prints these
 """
 import math
 import struct
@@ -29,7 +32,7 @@ from pathlib import Path
 from cases import all_calls, repeated_calls, reported_bytes
 from plans import EXAMPLE_BYTES, EXAMPLE_TEXT, timed_plans
 from records import plan_list
-from rules import Head, Question, byte_length, least_line, refusal, report, target_of, write_bytes, write_checks
+from rules import Head, Question, byte_length, least_line, openings_text, refusal, report, target_of, write_bytes, write_checks
 from selftest import selftest
 from sheet_cases import EXAMPLE_SHEET, QUOTED_SHEET, all_sheet_calls
 from sheets import made_bytes, sheet_checks, write_sheet
@@ -44,6 +47,10 @@ def write_test(folder, stdin, stdout):
 def write_vectors(folder):
     calls = all_calls()
     write_test(folder, b"".join(calls.records), "".join(line + "\n" for line in calls.lines))
+
+
+def write_example(folder):
+    write_test(folder, EXAMPLE_BYTES, EXAMPLE_TEXT)
 
 
 def write_reports(folder):
@@ -92,6 +99,11 @@ def print_sheet(kind, n, u, m, *doubles):
     sys.stdout.buffer.write(struct.pack(">BBBH3d", int(kind), int(n), int(u), int(m), *map(float, doubles)))
 
 
+def write_sheet_example(folder):
+    data = write_sheet(EXAMPLE_SHEET)
+    write_test(folder, data, made_bytes(data))
+
+
 GOOD_ENOUGH = 1063004405  # parts of S: 0.99, rounded down
 
 
@@ -101,11 +113,29 @@ def write_least_example(folder):
     write_test(folder, data, least_line(data, GOOD_ENOUGH))
 
 
+def write_openings_example(folder):
+    """On the same plan: one of the lines is the least opening's."""
+    data = made_bytes(write_sheet(QUOTED_SHEET))
+    write_test(folder, data, openings_text(data))
+
+
 def print_least(word, data):
     target = target_of(word)
     if target is None:
         sys.exit("a target is a whole number")
     sys.stdout.write(least_line(data, target))
+
+
+WRITTEN = {  # the commands that write files into a folder
+    "vectors": write_vectors,
+    "plans": write_plans,
+    "example": write_example,
+    "reports": write_reports,
+    "sheets": write_sheets,
+    "sheet-example": write_sheet_example,
+    "least-example": write_least_example,
+    "openings-example": write_openings_example,
+}
 
 
 def main(words):
@@ -116,31 +146,20 @@ def main(words):
             sys.stdout.write(report(sys.stdin.buffer.read()))
         case ["plan", n, u, m, *row] if row:
             print_plan(*map(int, words[1:]))
-        case ["vectors", folder]:
-            write_vectors(folder)
         case ["cases"]:
             print_cases()
         case ["repeat", word, number, times, *plan] if len(plan) <= 1:
             print_repeat(word, number, times, *plan)
-        case ["plans", folder]:
-            write_plans(folder)
-        case ["example", folder]:
-            write_test(folder, EXAMPLE_BYTES, EXAMPLE_TEXT)
-        case ["reports", folder]:
-            write_reports(folder)
         case ["sheet", kind, n, u, m, first, step, alpha]:
             print_sheet(*words[1:])
         case ["plan-of-sheet"]:
             print_plan_of_sheet(sys.stdin.buffer.read())
-        case ["sheets", folder]:
-            write_sheets(folder)
-        case ["sheet-example", folder]:
-            data = write_sheet(EXAMPLE_SHEET)
-            write_test(folder, data, made_bytes(data))
         case ["least", target]:
             print_least(target, sys.stdin.buffer.read())
-        case ["least-example", folder]:
-            write_least_example(folder)
+        case ["openings"]:
+            sys.stdout.write(openings_text(sys.stdin.buffer.read()))
+        case [word, folder] if word in WRITTEN:
+            WRITTEN[word](folder)
         case _:
             sys.exit(__doc__)
     return 0

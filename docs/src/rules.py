@@ -1,12 +1,12 @@
 """The rules of documents 01 and 02: plans and plan bytes, what is turned away, the month rule, the count row, failing in a month, the least
-opening, the report.
+opening, all openings, the report.
 
 Written from these documents and their sources alone, not from the engine or its definitions.
 """
 import math
 from collections import namedtuple
 from fractions import Fraction
-from itertools import accumulate, pairwise
+from itertools import accumulate, chain, pairwise
 
 S = 2**30
 MONTHS, OPENING, SIZES, CLAIMS, LEVEL = 120, 200, 320, 24, 320  # the limits of n, u, m, of k in both, of L in high and low
@@ -34,6 +34,11 @@ def largest_level(head):
 
 def all_months(head):
     return range(1, head.months + 1)
+
+
+def all_openings(head):
+    """From 0 to the plan's."""
+    return range(head.opening + 1)
 
 
 # ---- Plan bytes
@@ -127,6 +132,12 @@ def target_checks(head, row, target, room):
     yield 11, room < workspace_needed(head, SURVIVE)  # "Its desk is that of survive"
 
 
+def openings_checks(head, row, room, places):
+    yield from plan_checks(head, row)
+    yield 11, room < workspace_needed(head, SURVIVE)  # "with a desk as for survive"
+    yield 11, places < places_needed(head)  # "a short row with 11, like a short desk"
+
+
 def write_checks(head, row, room):
     yield from plan_checks(head, row)
     yield 11, room < byte_length(head)
@@ -143,10 +154,15 @@ def read_checks(data, room):
 
 
 def workspace_needed(head, question):
-    """The paper's desk: a row over the levels for each rounding, for a month's failure and the least opening too, and for both k that times
-    k + 1."""
+    """The paper's desk: a row over the levels for each rounding, for a month's failure, the least opening and all openings too, and for both k
+    that times k + 1."""
     rows = question.number + 1 if question.word == "both" else 1
     return 2 * (largest_level(head) + 1) * rows
+
+
+def places_needed(head):
+    """Of the lent row for all openings: "2 × (u + 1) numbers"."""
+    return 2 * (head.opening + 1)
 
 
 # ---- The month rule and the count row, with the division as a parameter
@@ -203,11 +219,16 @@ def month_back(plan, question, t, rows, divide):
     return [[month(divide, plan.weights, chance, *pair, s) for s in levels] for pair in zip(kept, claimed)]
 
 
-def carried_back(plan, question, months, rows, divide):
-    """The value at the opening, from the rows at the end of this many months."""
+def walked_back(plan, question, months, rows, divide):
+    """The rows before month 1, over the levels from 0 to the opening, from those at the end of this many months."""
     for t in range(months, 0, -1):
         rows = month_back(plan, question, t, rows, divide)
-    return rows[-1][plan.head.opening]
+    return rows
+
+
+def carried_back(plan, question, months, rows, divide):
+    """The value at the opening."""
+    return walked_back(plan, question, months, rows, divide)[-1][plan.head.opening]
 
 
 def month_rule(plan, question, divide):
@@ -252,9 +273,19 @@ def totals(pairs):
     return tuple(map(sum, zip((0, 0), *pairs)))
 
 
+def plan_text(data, lines):
+    """What a program prints of plan bytes: the plan's lines, or the refusal."""
+    number = refusal(read_checks(data, math.inf))
+    if number:
+        return f"refused {number}\n"
+    head, row, _ = read_bytes(data)
+    return "".join(line + "\n" for line in lines(plan_of(head, row)))
+
+
 # ---- The least opening that is good enough
 
 NONE = 15  # "exactly if no opening from 0 to the largest reaches the target"
+OPENING_LINE = "opening %d %d %d"  # an opening and its bounds, as programs print them
 
 
 def opened(plan, opening):
@@ -265,7 +296,7 @@ def opened(plan, opening):
 def least_opening(plan, target):
     """Up to the plan's, which is "the largest allowed", "the smallest opening whose lower survival bound reaches the target": the refusal's
     number, the opening and its bounds. Each opening is asked by itself."""
-    for opening in range(plan.head.opening + 1):
+    for opening in all_openings(plan.head):
         asked = opened(plan, opening)
         lower = month_rule(asked, SURVIVE, down)
         if lower >= target:
@@ -292,7 +323,37 @@ def least_line(data, target):
     if not number:
         head, row, _ = read_bytes(data)
         number, *answer = least_answer(head, row, target, math.inf)
-    return f"refused {number}\n" if number else "opening %d %d %d\n" % tuple(answer)
+    return f"refused {number}\n" if number else f"{OPENING_LINE}\n" % tuple(answer)
+
+
+# ---- All openings
+
+
+def opening_pairs(plan):
+    """Lower and upper of each, "opening 0 first", "equal to asking one by one": each opening is asked by itself."""
+    return [bounds(opened(plan, opening), SURVIVE) for opening in all_openings(plan.head)]
+
+
+def walked_pairs(plan):
+    """The same by one walk for all openings, for large plans, on which asking takes too long; the self-test holds it to asking."""
+    (lowers,), (uppers,) = (walked_back(plan, SURVIVE, plan.head.months, last_rows(plan, SURVIVE), divide) for divide in (down, up))
+    return list(zip(lowers, uppers))
+
+
+def openings_answer(head, row, room, lent, pairs=opening_pairs):
+    """The refusal's number and the lent row after the call, which a refusal does not change, nor an answer "past 2 × (u + 1) numbers"."""
+    number = refusal(openings_checks(head, row, room, len(lent)))
+    filled = [] if number else [*chain(*pairs(plan_of(head, row)))]
+    return number, filled + lent[len(filled) :]
+
+
+def opening_lines(plan):
+    for opening, pair in zip(all_openings(plan.head), opening_pairs(plan)):
+        yield OPENING_LINE % (opening, *pair)
+
+
+def openings_text(data):
+    return plan_text(data, opening_lines)
 
 
 # ---- The reserve report
@@ -324,8 +385,4 @@ def report_lines(plan):
 
 
 def report(data):
-    number = refusal(read_checks(data, math.inf))
-    if number:
-        return f"refused {number}\n"
-    head, row, _ = read_bytes(data)
-    return "".join(line + "\n" for line in report_lines(plan_of(head, row)))
+    return plan_text(data, report_lines)

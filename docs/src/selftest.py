@@ -10,12 +10,12 @@ from functools import cache
 from exact import carried_counts, carried_failures, carried_weight, claim_chance, count_weight, encloses, failure_weight, first_claim_both
 from exact import first_claim_survival, keeps_gap, level_kept, outcomes, question_weight
 from moves import chances_apart, difference, more_months
-from plans import EXAMPLE, EXAMPLE_BYTES, EXAMPLE_TEXT, WORKED, changed, flat, gapped, geometric_plan, lasting_plan, questions, some_chance, some_plan
-from plans import split, timed_plans
-from rules import CLAIMS, LARGEST, MONTHS, MOST_ASKED, OPENING, PLACES, S, SIZES, SURVIVE, Head, Question, all_months, ask_checks, bounds
-from rules import byte_length, claim_sum, count_row, down, failure_bounds, failure_checks, failure_rule, largest_level, last_rows, least_answer
-from rules import least_line, month_back, month_rule, opened, plan_checks, plan_of, read_bytes, refusal, report, row_length, target_of, totals
-from rules import unrounded, up, workspace_needed, write_bytes
+from plans import EXAMPLE, EXAMPLE_BYTES, EXAMPLE_TEXT, ONE_SIZE, WORKED, changed, flat, gapped, geometric_plan, lasting_plan, questions, some_chance
+from plans import some_plan, split, timed_plans
+from rules import CLAIMS, LARGEST, MONTHS, MOST_ASKED, OPENING, PLACES, S, SIZES, SURVIVE, Head, Question, all_months, all_openings, ask_checks
+from rules import bounds, byte_length, claim_sum, count_row, down, failure_bounds, failure_checks, failure_rule, largest_level, last_rows
+from rules import least_answer, least_line, month_back, month_rule, opened, opening_pairs, openings_answer, openings_text, plan_checks, plan_of
+from rules import read_bytes, refusal, report, row_length, target_of, totals, unrounded, up, walked_pairs, workspace_needed, write_bytes
 from sheet_cases import DOUBLES, EXAMPLE_SHEET, HALF, INFINITE, LEVEL, LONE, NANS, NO_TAIL, ONE, RAMP, WORKED_SHEETS, accepted, brief_head
 from sheet_cases import decimal_ramps, some_share, some_sheet, telling_ramps, with_double
 from sheets import LEVEL_KIND, SHEET_BYTES, SIGN, claim_weights, finite, head_of, last_place, made_plan, parts, pattern, plan_row, plus, power
@@ -152,21 +152,23 @@ def check_listed_failures(tally, plan, listed):
 # ---- The least opening
 
 
-def plain_lowers(plan):
-    """The lower bound of each opening from 0 to the plan's, without rows: a level's value in a month from those that it needs in the next."""
+def plain_values(plan, divide):
+    """The survival bound of each opening from 0 to the plan's, in one rounding, without rows: a level's value in a month from those that it needs
+    in the next."""
 
     @cache
     def value(t, s):
         if t == plan.head.months:
             return S
         chance, claims = plan.chances[t], sum(weight * value(t + 1, s + 1 - x) for x, weight in enumerate(plan.weights[:s], 1))
-        return ((S - chance) * S * value(t + 1, s + 1) + chance * claims) // S**2
+        return divide((S - chance) * S * value(t + 1, s + 1) + chance * claims, S**2)
 
-    return [value(0, opening) for opening in range(plan.head.opening + 1)]
+    return [value(0, opening) for opening in all_openings(plan.head)]
 
 
 def walked_lowers(plan, target):
-    """The same, by one walk for all openings; none of them where the work is given up, "in the month when no level reaches the target any more"."""
+    """The lower ones, by one walk for all openings; none of them where the work is given up, "in the month when no level reaches the target any
+    more"."""
     rows = last_rows(plan, SURVIVE)
     for t in reversed(all_months(plan.head)):
         rows = month_back(plan, SURVIVE, t, rows, down)
@@ -179,6 +181,12 @@ def first_reaching(lowers, target):
     """The refusal's number and the opening."""
     good = [opening for opening, lower in enumerate(lowers) if lower >= target]
     return (0, min(good)) if good else (15, 0)
+
+
+def first_pair(pairs, target):
+    """The refusal's number, the opening and its bounds, of the bounds of all openings."""
+    number, opening = first_reaching([lower for lower, _ in pairs], target)
+    return number, opening, *((0, 0) if number else pairs[opening])
 
 
 def targets_to_try(rng, lowers):
@@ -205,12 +213,13 @@ def check_smaller(tally, plan, target, opening, lower):
 
 
 def check_least_openings(tally, rng, plan):
-    lowers, row = plain_lowers(plan), [*plan.chances, *plan.weights, plan.tail]
+    lowers, row, pairs = plain_values(plan, down), [*plan.chances, *plan.weights, plan.tail], opening_pairs(plan)
     for target in targets_to_try(rng, lowers):
         number, opening, *pair = least_answer(plan.head, row, target, workspace_needed(plan.head, SURVIVE))
         about = plan, target, number, opening
         tally.check("least opening: by its definition", (number, opening) == first_reaching(lowers, target), about)
         tally.check("least opening: by one walk", (number, opening) == first_reaching(walked_lowers(plan, target), target), about)
+        tally.check("least opening: the first of all openings", (number, opening, *pair) == first_pair(pairs, target), about)
         if number == 0:
             check_found(tally, plan, target, opening, tuple(pair))
         else:
@@ -274,6 +283,77 @@ def check_least_numbers(tally):
         tally.check("least opening: lines", least_line(data, target) == line, (data.hex(), target))
 
 
+# ---- All openings
+
+
+def check_all_openings(tally, plan):
+    """Other ways to the same bounds, and each opening's exact weight."""
+    pairs, head = opening_pairs(plan), plan.head
+    tally.check("all openings: without rows", pairs == list(zip(plain_values(plan, down), plain_values(plan, up))), plan)
+    tally.check("all openings: by one walk", pairs == walked_pairs(plan), plan)
+    for opening, pair in zip(all_openings(head), pairs):
+        one = opened(plan, opening)
+        check_bounds(tally, "all openings", one, head.months, carried_weight(one, SURVIVE), pair, (plan, opening))
+    if head.months == 0:
+        tally.check("all openings: no months", pairs == [(S, S)] * (head.opening + 1), plan)
+
+
+def check_wide_walks(tally, rng):
+    """One walk against asking on plans of many openings and wide tables."""
+    for n, u, m in ((0, OPENING, SIZES), (1, OPENING, SIZES), (3, OPENING, 9), (5, 60, SIZES), (40, 30, 50)):
+        for plan in (plan_of(*some_plan(rng, n, u, m)), plan_of(*lasting_plan(rng, n, u, m))):
+            tally.check("all openings: by one walk, wide tables", opening_pairs(plan) == walked_pairs(plan), plan)
+
+
+ROWS_BY_HAND = [  # each plan's bounds in the lent row, worked by hand
+    (*EXAMPLE, [402653184, 402653184, 738197504, 738197504]),  # 3/8 and 11/16
+    (*flat(0, 0, 1), [S, S]),
+    (*flat(0, 3, 2), [S] * 8),
+    (Head(1, 0, 1), [S // 2] + ONE_SIZE, [S // 2, S // 2]),
+    (Head(1, 1, 1), [S // 2] + ONE_SIZE, [S // 2, S // 2, S, S]),
+    (Head(1, 2, 1), [S // 2] + ONE_SIZE, [S // 2, S // 2, S, S, S, S]),
+    (Head(1, 1, 2), [1, 1, S - 1, 0], [S - 1, S - 1, S - 1, S]),  # a claim ruins at 0, and at 1 with all but one part of its weight
+    (Head(2, 3, 2), [S, S, 0, S, 0], [0, 0, 0, 0, 0, 0, S, S]),  # a unit less in each month
+]
+
+
+def check_lent_row(tally, head, row, by_hand):
+    """Lengths around what is needed, of the workspace and of the row: 11 for either, and what lies past the bounds stays."""
+    needed, places = 2 * (head.opening + head.months + 1), len(by_hand)
+    rooms, lengths = (0, needed - 1, needed, needed + 1), (0, places - 1, places, places + 1, places + 9)
+    for room, length, held in itertools.product(rooms, lengths, (0, 7, 2**32 - 1)):
+        before, enough = [held] * length, room >= needed and length >= places
+        got = openings_answer(head, row, room, before)
+        tally.check("all openings: the lent row", got == ((0, by_hand + before[places:]) if enough else (11, before)), (head, row, room, before, got))
+
+
+OPENINGS_TEXTS = [
+    (EXAMPLE_BYTES, "opening 0 402653184 402653184\nopening 1 738197504 738197504\n"),
+    (write_bytes(*flat(0, 0, 1)), f"opening 0 {S} {S}\n"),
+    (write_bytes(Head(1, 1, 2), [1, 1, S - 1, 0]), "opening 0 1073741823 1073741823\nopening 1 1073741823 1073741824\n"),
+    (b"", "refused 1\n"),
+    (EXAMPLE_BYTES[:2], "refused 1\n"),
+    (EXAMPLE_BYTES[:-1], "refused 5\n"),
+    (EXAMPLE_BYTES[:-1] + b"\1", "refused 6\n"),
+    (write_bytes(*flat(MONTHS + 1, 0, 1)), "refused 2\n"),
+    (write_bytes(*flat(0, OPENING + 1, 1)), "refused 3\n"),
+    (write_bytes(*flat(0, 0, SIZES + 1)), "refused 4\n"),
+    (write_bytes(Head(1, 1, 1), [S + 1, S, 0]), "refused 7\n"),
+    (write_bytes(Head(1, 1, 1), [S, S, 1]), "refused 8\n"),
+    (write_bytes(*flat(1, 3, 2, 1)), "refused 9\n"),
+]
+
+
+def check_openings_numbers(tally):
+    for head, row, by_hand in ROWS_BY_HAND:
+        check_lent_row(tally, head, row, by_hand)
+    for (number, head, row), room, length in itertools.product(REFUSED_PLANS, (0, 5, math.inf), (0, 3, 500)):
+        got = openings_answer(head, row, room, [9] * length)
+        tally.check("all openings: plans refused", got == (number, [9] * length), (head, row, room, length, got))
+    for data, text in OPENINGS_TEXTS:
+        tally.check("all openings: texts", openings_text(data) == text, (data.hex(), openings_text(data)))
+
+
 # ---- Two plans
 
 
@@ -335,8 +415,8 @@ def check_sum_met(tally):
 
 def check_rising(tally, plan):
     """Neither survival bound falls when the opening grows, nor does the exact chance."""
-    asked = [opened(plan, opening) for opening in range(plan.head.opening + 1)]
-    values = [(carried_weight(one, SURVIVE), *bounds(one, SURVIVE)) for one in asked]
+    weights = (carried_weight(opened(plan, opening), SURVIVE) for opening in all_openings(plan.head))
+    values = [(weight, *pair) for weight, pair in zip(weights, opening_pairs(plan))]
     for smaller, larger in itertools.combinations(range(len(values)), 2):
         falls = [name for name, a, b in zip(("exact", "lower", "upper"), values[smaller], values[larger]) if a > b]
         tally.check("survival does not fall when the opening grows", not falls, (plan, smaller, larger, falls))
@@ -530,6 +610,8 @@ def selftest():
         check_claim_sums(tally, own, weights)
     check_small_divisions(tally, random.Random(15))
     check_least_numbers(tally)
+    check_openings_numbers(tally)
+    check_wide_walks(tally, random.Random(39))
     targets, others = random.Random(21), random.Random(33)
     for _ in range(300):
         head, row = some_plan(rng, rng.randrange(5), rng.randrange(6), rng.randrange(1, 5))
@@ -538,6 +620,7 @@ def selftest():
         check_claim_sums(tally, own, plan_of(head, row).weights)
         check_plan(tally, plan_of(head, row))
         check_least_openings(tally, targets, plan_of(head, row))
+        check_all_openings(tally, plan_of(head, row))
         check_rising(tally, plan_of(head, row))
         for other in other_plans(others, plan_of(head, row)):
             check_moves(tally, (plan_of(head, row), other), questions(head))
@@ -546,6 +629,7 @@ def selftest():
         plan = plan_of(*lasting_plan(rng, MONTHS, u, m))
         check_long_plan(tally, plan)
         check_least_openings(tally, targets, plan)
+        check_all_openings(tally, plan)
         check_rising(tally, plan)
         for other in other_plans(others, plan):
             check_moves(tally, (plan, other), [SURVIVE, Question("both", 1), Question("high", u + 9), Question("low", 2)])

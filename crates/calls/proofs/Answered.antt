@@ -19,7 +19,7 @@ use Rattle.model.proofs.Facts.{facts, horizon-is}
 use Rattle.model.proofs.Counts.{getD-tabulate}
 use Rattle.engine.specs.declared.CountRow.{CountRow}
 use Rattle.engine.specs.Answers.{refused, bounds-answer, answer, ruin-answer, count-rows, count-refused, count-answer}
-use Rattle.engine.proofs.AskLaws.{asked, month-inside}
+use Rattle.questions.proofs.RefusalLaws.{asked, month-inside}
 
 -- an answer gives its refusal's number, and its bounds where that is 0
 number-is : (number low high : ℕ) → bounds-answer number low high .refusal ≡ number

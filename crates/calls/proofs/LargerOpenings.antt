@@ -9,10 +9,16 @@ use Rattle.model.specs.Plan.{plan-of, opened}
 use Rattle.model.specs.Sensitivity.{OnlyOpeningGrows}
 use Rattle.engine.specs.declared.Answer.{Answer}
 use Rattle.engine.specs.Answers.{bounds-answer, answer}
+use Rattle.survival.specs.Openings.{opening-ask}
 use Rattle.opening.specs.declared.LeastAnswer.{LeastAnswer}
-use Rattle.opening.specs.Answers.{least-answer, opening-ask, Least}
+use Rattle.opening.specs.Answers.{least-answer, Least}
 use Rattle.opening.proofs.Theorems.{answer-is-least, allowed-answered}
 use Rattle.calls.proofs.TwoCalls.{survival-answers-rise}
+
+-- two openings of one plan
+pub opened-grows : (h : Head) (row : List ℕ) (v w : ℕ) → v ≤ w → OnlyOpeningGrows (plan-of (opened h v) row) (plan-of (opened h w) row)
+unfolding plan-of
+opened-grows h row v w l = record { opening = l; chances = refl; severity = refl; tail = refl }
 
 module _ (h : Head) (row : List ℕ) (target room : ℕ) (found : least-answer h row target room .refusal ≡ 0) where
   abbrev r : LeastAnswer
@@ -25,13 +31,9 @@ module _ (h : Head) (row : List ℕ) (target room : ℕ) (found : least-answer h
   unfolding bounds-answer
   asked-lower = ap (λ (a : Answer). a .lower) (is-least .asked)
 
-  grows : (v : ℕ) → r .opening ≤ v → OnlyOpeningGrows (plan-of (opened h (r .opening)) row) (plan-of (opened h v) row)
-  unfolding plan-of
-  grows v l = record { opening = l; chances = refl; severity = refl; tail = refl }
-
   pub larger-would-do : (v : ℕ) → r .opening ≤ v → v ≤ h .opening → target ≤ answer (opening-ask h v) row room .lower
   larger-would-do v l m =
       le-trans (is-least .enough)
       (rw asked-lower at
       (survival-answers-rise (opened h (r .opening)) row (opened h v) row room room
-      (allowed-answered h row target room found (r .opening) (is-least .allowed)) (allowed-answered h row target room found v m) (grows v l) .0))
+      (allowed-answered h row target room found (r .opening) (is-least .allowed)) (allowed-answered h row target room found v m) (opened-grows h row (r .opening) v l) .0))

@@ -3,3 +3,4 @@ pub mod Answered
 pub mod Theorems
 pub mod TwoCalls
 pub mod LargerOpenings
+pub mod AllOpenings

@@ -4,10 +4,12 @@ use Prim.Native.Nat.{ℕ}
 use mathlib.Core.Bool.{cond}
 use mathlib.Core.List.{List, _++_}
 use lib.Dec.{eqb}
-use lib.ListN.{length, drop}
+use lib.ListN.{length, drop, replicate}
 use Rattle.model.specs.declared.Head.{Head}
 use Rattle.codec.specs.declared.ReadAnswer.{ReadAnswer}
+use Rattle.codec.specs.declared.BytePlan.{BytePlan}
 use Rattle.codec.specs.declared.WriteAnswer.{WriteAnswer}
+use Rattle.model.specs.Limits.{row-room}
 use Rattle.model.specs.Plan.{row-length}
 use Rattle.model.specs.Format.{head-of, row-of, byte-length, bytes-of}
 use Rattle.model.specs.Refusal.{read-refusal, write-refusal}
@@ -33,6 +35,13 @@ read-answer bytes room = head-answer (read-refusal bytes room) (head-of bytes)
 
 abbrev pub row-after : List ℕ → List ℕ → List ℕ
 row-after bytes row = filled-after (read-refusal bytes (length row)) (row-length (head-of bytes)) (row-of bytes) row
+
+-- a plan read from bytes into a row of its own
+unfoldable pub byte-plan : List ℕ → BytePlan
+byte-plan bytes = record { refusal = a .refusal; head = a .head; row = row-after bytes (replicate row-room 0) }
+  where
+    a : ReadAnswer
+    a = read-answer bytes row-room
 
 -- the answer to writing a head and a row, with lent bytes of the given length, and the lent bytes after it
 abbrev pub write-answer : Head → List ℕ → ℕ → WriteAnswer

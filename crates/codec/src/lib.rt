@@ -5,14 +5,23 @@ mod reading;
 mod writing;
 
 use model::Head;
+use model::limits;
+use plan::lengths::blank_row;
 ghost use mathlib.Core.Path.{_≡_};
 ghost use lib.ListN.{length};
-ghost use Rattle.codec.specs.Answers.{read-answer, row-after, write-answer, bytes-after};
+ghost use Rattle.codec.specs.Answers.{read-answer, row-after, byte-plan, write-answer, bytes-after};
 
 // What reading answers: the refusal's number, 0 if there is none, and the plan's head, all zero if it is refused.
 pub struct ReadAnswer {
     pub refusal: u32,
     pub head: Head,
+}
+
+// A plan as it is read from bytes, with a row of its own, which has room for every plan's; past the plan's it is 0.
+pub struct BytePlan {
+    pub refusal: u32,
+    pub head: Head,
+    pub row: [u32; limits::ROW],
 }
 
 // What writing answers: the refusal's number, 0 if there is none, and how many bytes are written.
@@ -46,6 +55,20 @@ pub fn read(bytes: &[u8], row: &mut [u32]) -> ReadAnswer
     ReadAnswer {
         refusal: wrong,
         head,
+    }
+}
+
+// Reads a plan into a row of its own.
+pub fn read_plan(bytes: &[u8]) -> BytePlan
+    ensures { λ r. ⌜ r ≡ byte-plan (now (bytes .entry)) ⌝ }
+{
+    let mut row = blank_row();
+    let answer = read(bytes, &mut row);
+    let head = answer.head;
+    BytePlan {
+        refusal: answer.refusal,
+        head,
+        row,
     }
 }
 

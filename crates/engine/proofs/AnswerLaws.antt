@@ -31,10 +31,10 @@ use Rattle.month_rule.specs.Rows.{PlanTerms, Replaced}
 use Rattle.month_rule.specs.Shapes.{rows-size, values-in, rule-by}
 use Rattle.month_rule.proofs.RowLaws.{parts-part}
 use Rattle.ruin_rows.specs.Terms.{RuinTerms}
-use Rattle.engine.specs.Questions.{shape-of}
+use Rattle.questions.specs.Needs.{shape-of}
 use Rattle.engine.specs.LastRows.{last-rows, past-last, LastIn, LastFits, opening-value}
 use Rattle.engine.specs.Answers.{refused, bounds-answer, cleared-after}
-use Rattle.engine.proofs.AskLaws.{shape-rows, shape-width, last-agree, shape-value}
+use Rattle.questions.proofs.ShapeLaws.{shape-rows, shape-width, last-agree, shape-value}
 
 -- The clauses of a call that answers two bounds: of a refusal, of which nothing else is promised (E) …
 pub refused-out :

@@ -2,21 +2,21 @@
 mod answers;
 mod bounds;
 mod counts;
-pub mod questions;
-pub mod refusals;
 
 use crate::answers::none_allowed;
 use crate::answers::refused;
 use crate::answers::work_out;
 use crate::bounds::LastRows;
-use crate::questions::opening_allowed;
-use crate::questions::shape_of;
-use crate::questions::workspace_needed;
 use model::Ask;
 use model::Head;
 use model::Question;
 use model::limits;
 use plan::lengths::row_levels;
+use questions::needs::opening_allowed;
+use questions::needs::shape_of;
+use questions::needs::workspace_needed;
+use questions::refusals::ask_refusal;
+use questions::refusals::ruin_refusal;
 ghost use mathlib.Core.Path.{_≡_};
 ghost use Prim.Native.Nat.{ℕ, _<_};
 ghost use lib.ListN.{length, getD};
@@ -56,7 +56,7 @@ pub fn ask(ask: Ask, row: &[u32], workspace: &mut [u32]) -> Answer
         Encloses (plan-of (ask .head) (now (row .entry))) (plan-of (ask .head) (now (row .entry)) .chances)
         (exact (plan-of (ask .head) (now (row .entry))) (ask .question)) (r .lower) (r .upper)) ⌝ }
 {
-    let refusal = refusals::ask_refusal(ask, row, workspace.len());
+    let refusal = ask_refusal(ask, row, workspace.len());
     if refusal != 0 {
         return refused(refusal);
     }
@@ -79,7 +79,7 @@ pub fn ruin_in_month(head: Head, month: usize, row: &[u32], workspace: &mut [u32
         Encloses (plan-of head (now (row .entry))) (months-to (plan-of head (now (row .entry))) month)
         (exact-ruin (plan-of head (now (row .entry))) month) (r .lower) (r .upper)) ⌝ }
 {
-    let check = refusals::ruin_refusal(head, month, row, workspace.len());
+    let check = ruin_refusal(head, month, row, workspace.len());
     if check != 0 {
         return refused(check);
     }

@@ -38,6 +38,14 @@ row-room = max-months + max-sizes + 1
 abbrev pub level-room : ℕ
 level-room = max-span + 1
 
+-- room for both rows of survival of every plan
+abbrev pub survival-room : ℕ
+survival-room = 2 * level-room
+
+-- room for both bounds of every opening of every plan
+abbrev pub bounds-room : ℕ
+bounds-room = 2 * (max-opening + 1)
+
 -- room for the rows of every question on every plan
 abbrev pub workspace-room : ℕ
-workspace-room = 2 * level-room * (max-claims + 1)
+workspace-room = survival-room * (max-claims + 1)

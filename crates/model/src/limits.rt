@@ -21,5 +21,11 @@ pub const ROW: usize = MONTHS + SIZES + 1;
 // Room for the levels of the longest row of values.
 pub const LEVELS: usize = SPAN + 1;
 
+// Room for both rows of survival of every plan.
+pub const SURVIVAL: usize = 2 * LEVELS;
+
+// Room for both bounds of every opening of every plan.
+pub const BOUNDS: usize = 2 * (OPENING + 1);
+
 // Room for the rows of every question on every plan.
-pub const WORKSPACE: usize = 2 * LEVELS * (CLAIMS + 1);
+pub const WORKSPACE: usize = SURVIVAL * (CLAIMS + 1);

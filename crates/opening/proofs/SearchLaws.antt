@@ -10,10 +10,11 @@ use lib.ListN.{length, take, drop, replicate, length-drop, length-replicate, rep
 use lib.Seq.{drop-at, length-take-le}
 use Rattle.model.specs.declared.Rounding.the-variants.{Down, Up}
 use Rattle.month_rule.proofs.HalfLaws.{second-lent, after-both}
+use Rattle.survival.specs.Rows.{survival-row}
 use Rattle.opening.specs.declared.LeastAnswer.{LeastAnswer}
 use Rattle.opening.specs.Least.{least}
 use Rattle.opening.specs.Answers.{refused}
-use Rattle.opening.specs.Rows.{survival-row, search-answer}
+use Rattle.opening.specs.Rows.{search-answer}
 
 -- the answer, from the least opening: one above the largest where none reaches the target
 module _ (F : List ℕ) (opening : ℕ) (chances : List ℕ) (target v : ℕ) (found : v ≡ least (opening + 1) (λ s. leb target (survival-row Down F chances s))) where

@@ -28,20 +28,17 @@ use Rattle.model.proofs.Theorems.{enclosure}
 use Rattle.engine.specs.declared.Answer.{Answer}
 use Rattle.engine.specs.Answers.{bounds-answer, cleared-after, answer}
 use Rattle.engine.proofs.AnswerLaws.{severity-lent}
-use Rattle.engine.proofs.AskLaws.{Asked, asked, asked-decides, bounds-refusal-is, bounds-numbered, not-refused}
+use Rattle.questions.proofs.RefusalLaws.{Asked, asked, asked-decides, bounds-refusal-is, bounds-numbered, not-refused}
 use Rattle.opening.specs.declared.LeastAnswer.{LeastAnswer}
 use Rattle.opening.specs.Least.{least, reaches, least-opening}
 use Rattle.opening.specs.Refusal.{target-outside, target-checks, target-refusal, none-reaches, least-refusal}
-use Rattle.opening.specs.Answers.{refused, found, least-answer, least-workspace-after, opening-ask, Misses, Least}
-use Rattle.opening.specs.Rows.{survival-row, search-answer}
+use Rattle.survival.specs.Openings.{opening-ask}
+use Rattle.survival.specs.Rows.{survival-row}
+use Rattle.survival.proofs.RowLaws.{bound-at}
+use Rattle.survival.proofs.Theorems.{asked-with}
+use Rattle.opening.specs.Answers.{refused, found, least-answer, least-workspace-after, Misses, Least}
+use Rattle.opening.specs.Rows.{search-answer}
 use Rattle.opening.proofs.LeastLaws.{IsLeast, is-least, least-none}
-
--- the bounds of the plan with another opening are V_0 there
-pub bound-at :
-    (round : Rounding) (h : Head) (row : List ℕ) (v : ℕ) →
-    bound round (plan-of (opened h v) row) Survive ≡ survival-row round (plan-of h row .severity) (plan-of h row .chances) v
-unfolding bound plan-of opening-allowed
-bound-at round h row v = value-allowed (month round (plan-of h row .severity)) (plan-of (opened h v) row) Survive refl
 
 -- a target that is not outside
 pub target-inside : (target : ℕ) → target-outside target ≡ false → (0 < target) × (target ≤ S)
@@ -122,32 +119,22 @@ module _ (h : Head) (row : List ℕ) (target room : ℕ) where
     unfolding bounds-refusal target-checks
     known = asked h row 14 (target-outside target) (survival-workspace h) room (omega arith) unrefused
 
-    smaller : (v : ℕ) → v ≤ h .opening → Asked (opened h v) row (outside Survive) (workspace-needed (opening-ask h v)) room
-    unfolding outside workspace-needed rows-needed
-    smaller v l =
-        record {
-          accepted = opened-accepted h row (known .accepted) v l;
-          inside = refl;
-          enough = omega (arith, known .enough, level-from v (h .opening) (h .months) l);
-        }
-
-    asked-with :
+    asked-at :
         (v : ℕ) → v ≤ h .opening →
         answer (opening-ask h v) row room ≡ bounds-answer 0 (lower (plan-of (opened h v) row) Survive) (upper (plan-of (opened h v) row) Survive)
-    unfolding answer
-    asked-with v l = rw (not-refused 10 (omega arith) (smaller v l))
+    asked-at = asked-with h row room (known .accepted) (known .enough)
 
     misses : (v : ℕ) → v ≤ h .opening → reaches h row target v ≡ false → Misses h row target room v
     unfolding bounds-answer reaches
     misses v l e =
         record {
-          answered = ap (λ (a : Answer). a .refusal) (asked-with v l);
-          below = rw (asked-with v l) (leb-false target (lower (plan-of (opened h v) row) Survive) e);
+          answered = ap (λ (a : Answer). a .refusal) (asked-at v l);
+          below = rw (asked-at v l) (leb-false target (lower (plan-of (opened h v) row) Survive) e);
         }
 
     miss-fails : (v : ℕ) → v ≤ h .opening → Misses h row target room v → reaches h row target v ≡ false
     unfolding bounds-answer reaches
-    miss-fails v l m = lt-leb target (lower (plan-of (opened h v) row) Survive) (rw (asked-with v l) at (m .below))
+    miss-fails v l m = lt-leb target (lower (plan-of (opened h v) row) Survive) (rw (asked-at v l) at (m .below))
 
     -- what the search gives is what the call answers
     pub search-is : search-answer (plan-of h row .severity) (h .opening) (plan-of h row .chances) target ≡ least-answer h row target room
@@ -180,7 +167,7 @@ module _ (h : Head) (row : List ℕ) (target room : ℕ) where
   found-is-least none l =
       record {
         allowed = l;
-        asked = asked-with none (least-opening h row target) l;
+        asked = asked-at none (least-opening h row target) l;
         enough = leb-true target _ (is-the-least .passes (omega arith));
         smallest = λ v m. misses none v (omega arith) (is-the-least .smaller v m);
       }
@@ -192,7 +179,7 @@ module _ (h : Head) (row : List ℕ) (target room : ℕ) where
   -- and asking with any opening that is allowed is not refused
   pub allowed-answered : least-answer h row target room .refusal ≡ 0 → (v : ℕ) → v ≤ h .opening → answer (opening-ask h v) row room .refusal ≡ 0
   unfolding bounds-answer
-  allowed-answered e v l = ap (λ (a : Answer). a .refusal) (asked-with (answered e .unrefused) v l)
+  allowed-answered e v l = ap (λ (a : Answer). a .refusal) (asked-at (answered e .unrefused) v l)
 
   -- "exactly if no opening from 0 to the largest reaches the target", where no other check fits: 15 says so …
   only-none : (n : ℕ) (b : Bool) → n < 15 → cond (eqb n 0) (cond b 15 0) n ≡ 15 → (n ≡ 0) × (b ≡ true)
@@ -231,24 +218,6 @@ module _ (h : Head) (row : List ℕ) (target room : ℕ) where
       let p = plan-of (opened h (r .opening)) row in
       Encloses p (p .chances) (exact p Survive) (r .lower) (r .upper)
   answer-encloses e = let a = answered e in rw (a .is-found) (found-encloses (a .unrefused) (a .allowed))
-
--- the workspace: untouched by an earlier check, and otherwise 0 as far as it is needed
-pub untouched :
-    (h : Head) (row : List ℕ) (target n : ℕ) (ws : List ℕ) → n ≡ target-refusal h row target (length ws) → (n ≡ 0 → ⊥) →
-    ws ≡ least-workspace-after h row target ws
-unfolding cleared-after
-untouched h row target n ws e ne = rw (← e, ne-eqb n 0 ne)
-
-pub needed-is : (h : Head) (levels : ℕ) → levels ≡ row-levels (h .opening) (h .months) → 2 * levels ≡ survival-workspace h
-unfolding workspace-needed rows-needed
-needed-is h levels e = rw e (sym (mul-one (2 * row-levels (h .opening) (h .months))))
-
-pub cleared-is :
-    (h : Head) (row : List ℕ) (target needed : ℕ) (ws front : List ℕ) → target-refusal h row target (length ws) ≡ 0 → needed ≡ survival-workspace h → needed ≤ length ws →
-    front ≡ replicate (length (take needed ws)) 0 → front ++ drop needed ws ≡ least-workspace-after h row target ws
-unfolding cleared-after
-cleared-is h row target needed ws front none en fits zeros =
-    rw (none, ← en) (ap (λ (first : List ℕ). first ++ drop needed ws) (zeros ∙ ap (λ (n : ℕ). replicate n 0) (length-take-le needed ws fits)))
 
 -- the search over the parts of the row as they are lent
 pub lent-is :

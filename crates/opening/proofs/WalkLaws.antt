@@ -1,6 +1,6 @@
 -- Laws of the walk back through the months: the row in memory is survival's, month by month, and where it lies below the target it stays there.
-use Prim.Native.Nat.{ℕ, suc, _+_, _*_, _-_, _≤_, zero-le, _<_}
-use mathlib.Core.Path.{_≡_, sym, _∙_, ap}
+use Prim.Native.Nat.{ℕ, zero, suc, _+_, _*_, _-_, _≤_, zero-le, _<_}
+use mathlib.Core.Path.{_≡_, refl, sym, _∙_, ap}
 use mathlib.Core.Logic.{⊎-elim}
 use mathlib.Core.List.{List, _∷_}
 use native.Mathlib.Nat.{le-refl, mul-suc, one-mul, zero-mul}
@@ -13,7 +13,7 @@ use Rattle.model.specs.declared.Rounding.the-variants.{Down}
 use Rattle.model.specs.declared.Question.the-variants.{Survive}
 use Rattle.model.specs.Scale.{S}
 use Rattle.model.specs.Levels.{gain, largest-level}
-use Rattle.model.specs.MonthRule.{month, month-back, kept, values, rule-of, last-of, claims-of}
+use Rattle.model.specs.MonthRule.{month, month-back, kept, values, rule-of, last-of, claims-of, all-placed}
 use Rattle.model.proofs.LevelLaws.{level-start, level-from, level-later, reachable}
 use Rattle.model.proofs.SumLaws.{below-or-not}
 use Rattle.model.proofs.Values.{values-never-above, claims-alike}
@@ -23,29 +23,26 @@ use Rattle.month_rule.specs.Rows.{at, PlanTerms}
 use Rattle.month_rule.specs.Shapes.{row-with, values-in, rule-by, allowed-places, RowsIn, TopIn, TakenBack}
 use Rattle.month_rule.proofs.HalfLaws.{parts-replicate}
 use Rattle.month_rule.proofs.AllMonths.{taken-back-none, taken-back-more}
-use Rattle.engine.specs.Questions.{shape-of}
-use Rattle.engine.proofs.AskLaws.{shape-value}
+use Rattle.questions.specs.Needs.{shape-of}
+use Rattle.survival.specs.Rows.{survival-row}
+use Rattle.survival.proofs.RowLaws.{back-is}
 use Rattle.opening.specs.Least.{least}
-use Rattle.opening.specs.Rows.{survival-row, Below, Reaches, GivenUp}
+use Rattle.opening.specs.Rows.{Below, Reaches, GivenUp}
 use Rattle.opening.proofs.LeastLaws.{least-agree}
 
--- the row in memory, from S through the months, is that of survival
-pub back-is :
-    (round : Rounding) (F Ps : List ℕ) (width level : ℕ) (row : List ℕ) → largest-level level (length Ps) < width →
-    TakenBack round F (shape-of Survive width) level Ps (replicate width S) row → (s : ℕ) → s ≤ level → from-top level row s ≡ survival-row round F Ps s
-unfolding shape-of last-of
-back-is round F Ps width level row inside back s l =
-    rw (zero-mul width) at (back .each 0 (omega arith) s l)
-    ∙ shape-value round F Ps Survive s (width - 1) width (omega arith) (omega (arith, level-from s level (length Ps) l)) (omega arith) _ (last-of Survive)
-    (λ j m r.
-    let none : 1 - 1 - j ≡ 0 = omega arith in
-    sym (rw (none, zero-mul width) (getD-replicate width (largest-level level (length Ps) - r) S 0 (omega arith))))
+-- a last row of S
+last-placed :
+    (width top : ℕ) → top < width → (k : ℕ) → k < shape-of Survive width .rows → (s : ℕ) → values-in (shape-of Survive width) top (replicate width S) k s ≡ all-placed k s
+unfolding shape-of all-placed
+last-placed width top l zero m s = rw zero-mul (getD-replicate width (top - s) S 0 (omega arith))
+last-placed width top l (suc k) m s = absurd (omega arith)
 
--- the same of a shape and of a last row that are known by equations
+-- the row in memory, from there through the months, is that of survival
 pub back-of :
     (round : Rounding) (F Ps : List ℕ) (width level : ℕ) (shape : Shape) (last row : List ℕ) → shape ≡ shape-of Survive width → last ≡ replicate width S →
     largest-level level (length Ps) < width → TakenBack round F shape level Ps last row → (s : ℕ) → s ≤ level → from-top level row s ≡ survival-row round F Ps s
-back-of round F Ps width level shape last row es el inside back s l = back-is round F Ps width level row inside (rw (es, el) at back) s l
+back-of round F Ps width level shape last row es el inside back s l =
+    back-is round F Ps width level shape last row es inside (rw (es, el) (last-placed width (largest-level level (length Ps)) inside)) back s l
 
 -- the one row of survive in memory
 pub rows-in : (shape : Shape) (width : ℕ) (row : List ℕ) → shape ≡ shape-of Survive width → length row ≡ width → Parts row → RowsIn shape row
@@ -123,7 +120,8 @@ module _ (F : List ℕ) (opening : ℕ) (chances : List ℕ) (target width : ℕ
       (month : ℕ) → month ≤ length chances → (row : List ℕ) →
       TakenBack Down F (shape-of Survive width) (largest-level opening month) (drop month chances) (replicate width S) row →
       (s : ℕ) → s ≤ largest-level opening month → from-top (largest-level opening month) row s ≡ survival-row Down F (drop month chances) s
-  row-is month l row back s m = back-is Down F (drop month chances) width (largest-level opening month) row (remaining month l) back s m
+  row-is month l row back s m =
+      back-of Down F (drop month chances) width (largest-level opening month) (shape-of Survive width) (replicate width S) row refl refl (remaining month l) back s m
 
   module _ (t : ℕ) (above : 0 < t) (row : List ℕ) (walking : Walking F opening chances target width t row) (row′ : List ℕ) where
     abbrev Walked : Type 0
@@ -219,7 +217,7 @@ module _ (F : List ℕ) (opening : ℕ) (chances : List ℕ) (target width t : �
   pub openings-are : (v : ℕ) → v ≤ opening → from-top opening row v ≡ survival-row Down F chances v
   openings-are v l =
       let none : t - 1 ≡ 0 = omega arith in
-      back-is Down F chances width opening row fits (rw (none, level-start opening) at back) v l
+      back-of Down F chances width opening (shape-of Survive width) (replicate width S) row refl refl fits (rw (none, level-start opening) at back) v l
 
   pub some-opening : Reaches target opening (from-top opening row)
   some-opening =

@@ -6,12 +6,12 @@ use mathlib.Core.List.{List}
 use lib.Dec.{eqb}
 use lib.ListN.{length}
 use Rattle.model.specs.declared.Head.{Head}
-use Rattle.model.specs.declared.Ask.{Ask}
 use Rattle.model.specs.declared.Question.the-variants.{Survive}
 use Rattle.model.specs.Plan.{Plan, plan-of, opened}
 use Rattle.model.specs.Bounds.{lower, upper}
 use Rattle.model.specs.Refusal.{survival-workspace}
 use Rattle.engine.specs.Answers.{bounds-answer, cleared-after, answer}
+use Rattle.survival.specs.Openings.{opening-ask}
 use Rattle.opening.specs.declared.LeastAnswer.{LeastAnswer}
 use Rattle.opening.specs.Least.{least-opening}
 use Rattle.opening.specs.Refusal.{target-refusal, least-refusal}
@@ -39,10 +39,6 @@ least-answer h row target room =
 abbrev pub least-workspace-after : Head → List ℕ → ℕ → List ℕ → List ℕ
 least-workspace-after h row target workspace =
     cleared-after (target-refusal h row target (length workspace)) (survival-workspace h) workspace
-
--- asking whether the fund lasts, of the plan with another opening
-abbrev pub opening-ask : Head → ℕ → Ask
-opening-ask h v = record { head = opened h v; question = Survive }
 
 -- That asking the plan with this opening, in the same room, is not refused and gives a lower bound below the target.
 pub record Misses (h : Head) (row : List ℕ) (target room v : ℕ) : Type 0 where

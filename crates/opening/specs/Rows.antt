@@ -4,20 +4,15 @@ use mathlib.Core.Bool.{cond}
 use mathlib.Core.List.{List}
 use lib.Dec.{leb, ltb}
 use lib.ListN.{length, drop}
-use Rattle.model.specs.declared.Rounding.{Rounding}
 use Rattle.model.specs.declared.Rounding.the-variants.{Down, Up}
-use Rattle.model.specs.declared.Question.the-variants.{Survive}
 use Rattle.model.specs.Levels.{largest-level}
-use Rattle.model.specs.MonthRule.{Row, month, values, rule-of, last-of, claims-of}
+use Rattle.model.specs.MonthRule.{Row}
 use Rattle.claims.specs.Listing.{Listing}
 use Rattle.month_rule.specs.Rows.{PlanTerms}
+use Rattle.survival.specs.Rows.{survival-row}
 use Rattle.opening.specs.declared.LeastAnswer.{LeastAnswer}
 use Rattle.opening.specs.Least.{least}
 use Rattle.opening.specs.Answers.{refused}
-
--- V_0 of survive over these months, by the level at which they begin
-abbrev pub survival-row : Rounding → List ℕ → List ℕ → Row
-survival-row round severity chances = values (month round severity) (rule-of Survive) (last-of Survive) chances (claims-of Survive)
 
 -- "the whole row lies below target", as far as a level
 unfoldable pub Below : ℕ → ℕ → Row → Type 0

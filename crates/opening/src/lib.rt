@@ -4,11 +4,11 @@ mod search;
 
 use crate::search::refused;
 use crate::search::search;
-use engine::refusals::bounds_refusal;
 use model::Ask;
 use model::Head;
 use model::Question;
 use plan::lengths::row_levels;
+use questions::refusals::bounds_refusal;
 ghost use mathlib.Core.Path.{_≡_};
 ghost use Prim.Native.Nat.{ℕ, _≤_};
 ghost use lib.ListN.{length};

@@ -9,10 +9,10 @@ ghost use Rattle.model.specs.Scale.{S};
 ghost use Rattle.model.specs.Levels.{largest-level};
 ghost use Rattle.claims.specs.Values.{from-top};
 ghost use Rattle.month_rule.specs.Shapes.{TakenBack};
-ghost use Rattle.engine.specs.Questions.{shape-of};
+ghost use Rattle.questions.specs.Needs.{shape-of};
+ghost use Rattle.survival.specs.Rows.{survival-row};
 ghost use Rattle.opening.specs.Least.{least};
-ghost use Rattle.opening.specs.Rows.{survival-row, Reaches, GivenUp, Walk};
-use engine::questions::shape_of;
+ghost use Rattle.opening.specs.Rows.{Reaches, GivenUp, Walk};
 use model::GAIN;
 use model::Question;
 use model::Rounding;
@@ -20,6 +20,7 @@ use month_rule::months::all_months_back;
 use month_rule::months::month_back;
 use month_rule::rows::fill;
 use month_rule::rows::value_at;
+use questions::needs::shape_of;
 
 // The row of lower bounds from S back through the months, until no level of it reaches the target any more. Answers the month in which it was given up, 0 if
 // it was not: no value of an earlier month is above the row's largest.

@@ -3,17 +3,16 @@ use Prim.Native.Nat.{ℕ}
 use mathlib.Core.Path.{_≡_}
 use mathlib.Core.List.{List}
 use borrow.Author.Tests.{ne-eqb}
-use Rattle.model.specs.Limits.{row-room}
+use Rattle.model.specs.Limits.{row-room, survival-room}
 use Rattle.model.specs.Format.{head-of, row-of}
 use Rattle.model.specs.Refusal.{read-refusal}
 use Rattle.opening.specs.declared.LeastAnswer.{LeastAnswer}
 use Rattle.opening.specs.Answers.{least-answer}
-use Rattle.text.specs.Text.{ascii}
-use Rattle.report_lines.specs.Lines.{numbered-line, refused-line}
-use Rattle.quote.specs.Quote.{survive-room, answer-line, quote-of}
+use Rattle.report_lines.specs.Lines.{opening-line, refused-line}
+use Rattle.quote.specs.Quote.{answer-line, quote-of}
 
 module _ (a : LeastAnswer) where
-  pub answer-shown : a .refusal ≡ 0 → answer-line a ≡ numbered-line (ascii "opening") (a .opening) (a .lower) (a .upper)
+  pub answer-shown : a .refusal ≡ 0 → answer-line a ≡ opening-line (a .opening) (a .lower) (a .upper)
   unfolding answer-line
   answer-shown none = rw none
 
@@ -24,7 +23,7 @@ module _ (a : LeastAnswer) where
 module _ (bytes : List ℕ) (target : ℕ) where
   pub quote-accepted :
       read-refusal bytes row-room ≡ 0
-      → quote-of bytes target ≡ answer-line (least-answer (head-of bytes) (row-of bytes) target survive-room)
+      → quote-of bytes target ≡ answer-line (least-answer (head-of bytes) (row-of bytes) target survival-room)
   unfolding quote-of
   quote-accepted none = rw none
 

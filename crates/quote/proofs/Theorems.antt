@@ -1,4 +1,4 @@
--- What holds of the workspace that is lent, of the input that is read, and of a target as it is written. Assumes nothing.
+-- What holds of the input that is read, and of a target as it is written. Assumes nothing.
 use Prim.Native.Nat.{ℕ, zero, suc, _/_, _^_, _≤_, _<_, min}
 use mathlib.Core.Path.{_≡_, refl, ap, _∙_}
 use mathlib.Core.Bool.{Bool, true, false, _||_, cond}
@@ -8,27 +8,19 @@ use native.Mathlib.Omega.{arith}
 use borrow.Author.Tests.{ltb-true, ltb-false, le-ltb, lt-ltb, ne-eqb}
 use lib.Dec.{ltb, eqb}
 use lib.ListN.{length, take, length-append}
-use Rattle.model.specs.declared.Head.{Head}
 use Rattle.model.specs.Limits.{row-room}
 use Rattle.model.specs.Scale.{S}
 use Rattle.model.specs.Sums.{any}
-use Rattle.model.specs.Refusal.{HeadAccepted, rows-needed, workspace-needed, survival-workspace}
 use Rattle.model.proofs.SumLaws.{none-append}
-use Rattle.model.proofs.Facts.{head-facts}
 use Rattle.model.proofs.Rooms.{figures}
 use Rattle.codec.proofs.LongInput.{first-part}
 use Rattle.opening.specs.Refusal.{target-outside}
 use Rattle.text.specs.Text.{last-digit, digits, decimal}
 use Rattle.report_lines.specs.Lines.{refused-line}
-use Rattle.quote.specs.Quote.{survive-room, quote-of}
+use Rattle.quote.specs.Quote.{quote-of}
 use Rattle.quote.specs.Target.{not-digit, is-number, with-digit, spelled, most-parts, target-of}
 use Rattle.quote.proofs.Laws.{quote-refused}
 use Rattle.quote.proofs.Spelling.{read-as, spelled-more}
-
--- "Its desk is that of survive": no accepted plan needs a larger one
-pub room-suffices : (h : Head) → HeadAccepted h → survival-workspace h ≤ survive-room
-unfolding workspace-needed rows-needed
-room-suffices h accepted = omega (arith, head-facts h accepted .span-fits)
 
 -- the bytes of the program's buffer for a plan
 abbrev buffer : ℕ

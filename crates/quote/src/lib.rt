@@ -4,29 +4,26 @@ mod digits;
 use crate::digits::next_number;
 use crate::digits::not_digit;
 use model::Head;
-use model::limits;
 use opening::LeastAnswer;
-use plan::lengths::blank_row;
 use plan::lengths::row_length;
 use report_lines::lines::put_numbered;
 use report_lines::lines::put_refused;
+use survival::rooms;
 ghost use mathlib.Core.Path.{_≡_};
 ghost use Prim.Native.Nat.{_≤_};
 ghost use mathlib.Core.List.{_++_};
-ghost use lib.ListN.{length, take, drop, replicate};
+ghost use lib.ListN.{length, take, drop};
+ghost use Rattle.model.specs.Limits.{survival-room};
 ghost use Rattle.model.specs.Plan.{row-length};
 ghost use Rattle.model.specs.Refusal.{Accepted};
 ghost use Rattle.opening.specs.Answers.{least-answer};
 ghost use Rattle.text.specs.Text.{Appended};
 ghost use Rattle.report_lines.specs.Lines.{line-room};
-ghost use Rattle.quote.specs.Quote.{survive-room, answer-line, quote-of};
+ghost use Rattle.quote.specs.Quote.{answer-line, quote-of};
 ghost use Rattle.quote.specs.Target.{target-of};
 
 // Room for every line: the proof of `quote` fails where it is less than `line-room`.
 pub const TEXT: usize = 128;
-
-// Room for survive on every plan; specs/Quote.antt has it for the definitions.
-const WORKSPACE: usize = 2 * limits::LEVELS;
 
 // A target in parts of 2^30, and whether it could be read; 0 where it could not.
 pub struct Target {
@@ -48,31 +45,23 @@ fn put_quote(text: &mut [u8], bytes: &[u8], target: u32) -> usize
     requires { ⌜ line-room ≤ length (now text) ⌝ }
     ensures { λ r. ⌜ Appended (now (text .entry)) 0 (quote-of (now (bytes .entry)) target) (now (text .exit)) r ⌝ }
 {
-    let mut row = blank_row();
-    let read = codec::read(bytes, &mut row);
-    let refusal = read.refusal;
+    let plan = codec::read_plan(bytes);
+    let refusal = plan.refusal;
     if refusal != 0 {
         return put_refused(text, 0, refusal);
     }
-    put_answer(text, least_of(read.head, &row, target))
+    let row = plan.row;
+    put_answer(text, least_of(plan.head, &row, target))
 }
 
 // The answer for an accepted plan, whose row is the first part of the lent one.
 fn least_of(head: Head, row: &[u32], target: u32) -> LeastAnswer
     requires { ⌜ Accepted head (take (row-length head) (now row)) ⌝ }
-    ensures { λ r. ⌜ r ≡ least-answer head (take (row-length head) (now (row .entry))) target survive-room ⌝ }
+    ensures { λ r. ⌜ r ≡ least-answer head (take (row-length head) (now (row .entry))) target survival-room ⌝ }
 {
     let used = row_length(head);
-    let mut workspace = workspace();
+    let mut workspace = rooms::workspace();
     opening::least(head, &row[..used], target, &mut workspace)
-}
-
-// The first `ensures` gives the length, which lending the array needs.
-fn workspace() -> [u32; WORKSPACE]
-    ensures sized { λ r. ⌜ survive-room ≡ length r ⌝ }
-    ensures blank { λ r. ⌜ r ≡ replicate survive-room 0 ⌝ }
-{
-    [0; WORKSPACE]
 }
 
 fn put_answer(text: &mut [u8], answer: LeastAnswer) -> usize

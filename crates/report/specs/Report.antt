@@ -1,13 +1,11 @@
 -- "The reserve report", from its lines and the definitions of the model alone.
-use Prim.Native.Nat.{ℕ, _+_, _*_, _≤_}
-use mathlib.Core.Path.{_≡_}
+use Prim.Native.Nat.{ℕ, _+_, _*_}
 use mathlib.Core.Bool.{cond}
 use mathlib.Core.List.{List, _++_}
 use lib.Dec.{eqb}
-use lib.ListN.{length}
 use Rattle.model.specs.declared.Head.{Head}
 use Rattle.model.specs.declared.Question.the-variants.{Survive, Both, High, Low}
-use Rattle.model.specs.Limits.{max-months, row-room, workspace-room}
+use Rattle.model.specs.Limits.{max-months, row-room}
 use Rattle.model.specs.Plan.{Plan, plan-of}
 use Rattle.model.specs.Format.{head-of, row-of}
 use Rattle.model.specs.Refusal.{read-refusal}
@@ -33,12 +31,6 @@ text-room =
     head-room
     + (most-lines Survive + (max-months + 1) + most-lines (Both 0) + most-lines (High 0) + most-lines (Low 0) + (max-months + 1))
     * line-room
-
--- What a report needs of lent memory: room for the longest text, for the row of every plan and for every question.
-pub record ReportRoom (text row workspace : List ℕ) : Type 0 where
-  pub of-text : text-room ≤ length text
-  pub of-row : row-room ≡ length row
-  pub of-workspace : workspace-room ≤ length workspace
 
 unfoldable pub report-of : List ℕ → List ℕ
 report-of bytes =

@@ -2,7 +2,6 @@
 use model::Head;
 use model::Question;
 use model::limits;
-use plan::lengths::blank_row;
 use plan::lengths::row_length;
 use report_lines::groups::put_counts;
 use report_lines::groups::put_group;
@@ -15,10 +14,9 @@ ghost use mathlib.Core.List.{_++_};
 ghost use lib.ListN.{length, take, drop, replicate};
 ghost use Rattle.model.specs.Limits.{workspace-room};
 ghost use Rattle.model.specs.Plan.{row-length};
-ghost use Rattle.codec.specs.Answers.{row-after};
 ghost use Rattle.text.specs.Text.{Appended};
 ghost use Rattle.report_lines.specs.Asking.{Answerable, Cleared};
-ghost use Rattle.report.specs.Report.{text-room, plan-report, ReportRoom, report-of};
+ghost use Rattle.report.specs.Report.{text-room, plan-report, report-of};
 
 // Room for every report: the proof of `report` fails where it is less than `text-room`.
 pub const TEXT: usize = 65536;
@@ -30,9 +28,8 @@ pub fn report(bytes: &[u8], text: &mut [u8; TEXT]) -> usize
     ensures written { λ r. ⌜ now (text .exit) ≡ report-of (now (bytes .entry)) ++ drop r (now (text .entry)) ⌝ }
     ensures within { λ r. ⌜ (r ≤ length (now (text .exit))) × (r ≡ length (take r (now (text .exit)))) ⌝ }
 {
-    let mut row = blank_row();
     let mut workspace = workspace();
-    put_report(text, bytes, &mut row, &mut workspace)
+    put_report(text, bytes, &mut workspace)
 }
 
 // The second `ensures` gives the length, which lending the array needs.
@@ -43,18 +40,18 @@ fn workspace() -> [u32; limits::WORKSPACE]
     [0; limits::WORKSPACE]
 }
 
-fn put_report(text: &mut [u8], bytes: &[u8], row: &mut [u32], workspace: &mut [u32]) -> usize
-    requires { ⌜ ReportRoom (now text) (now row) (now workspace) ⌝ }
+fn put_report(text: &mut [u8], bytes: &[u8], workspace: &mut [u32]) -> usize
+    requires { ⌜ (text-room ≤ length (now text)) × (workspace-room ≤ length (now workspace)) ⌝ }
     ensures written { λ r. ⌜ Appended (now (text .entry)) 0 (report-of (now (bytes .entry))) (now (text .exit)) r ⌝ }
-    ensures read { λ _. ⌜ now (row .exit) ≡ row-after (now (bytes .entry)) (now (row .entry)) ⌝ }
     ensures cleared { λ _. ⌜ Cleared (now (workspace .entry)) (now (workspace .exit)) ⌝ }
 {
-    let answer = codec::read(bytes, row);
-    let refusal = answer.refusal;
+    let plan = codec::read_plan(bytes);
+    let refusal = plan.refusal;
     if refusal != 0 {
         return put_refused(text, 0, refusal);
     }
-    put_accepted(text, answer.head, row, workspace)
+    let row = plan.row;
+    put_accepted(text, plan.head, &row, workspace)
 }
 
 // The report of an accepted plan, whose row is the first part of the lent one.

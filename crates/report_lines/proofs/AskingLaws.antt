@@ -18,7 +18,7 @@ use Rattle.model.specs.Refusal.{outside, month-outside, workspace-needed, survi
 use Rattle.model.proofs.Facts.{accepted-head}
 use Rattle.model.proofs.Rooms.{workspace-fits}
 use Rattle.engine.specs.Answers.{bounds-answer, cleared-after, answer, workspace-after, ruin-answer, ruin-workspace-after}
-use Rattle.engine.proofs.AskLaws.{not-refused}
+use Rattle.questions.proofs.RefusalLaws.{not-refused}
 use Rattle.report_lines.specs.Asking.{Answerable, zero-first, workspace-left, Cleared}
 
 -- no question asked

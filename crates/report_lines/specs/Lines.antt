@@ -66,6 +66,10 @@ question-lines p q first count = joined count (question-at p q first)
 abbrev pub numbered-line : List ℕ → ℕ → ℕ → ℕ → List ℕ
 numbered-line word x low high = line word (x ∷ low ∷ high ∷ [])
 
+-- the line of an opening and its survival bounds
+abbrev pub opening-line : ℕ → ℕ → ℕ → List ℕ
+opening-line v low high = numbered-line (ascii "opening") v low high
+
 abbrev pub claims-line : ℕ → ℕ → ℕ → List ℕ
 claims-line k low high = numbered-line (ascii "claims") k low high
 

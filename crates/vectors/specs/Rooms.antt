@@ -2,7 +2,7 @@
 use Prim.Native.Nat.{ℕ, _+_}
 use mathlib.Core.Bool.{_||_, cond}
 use lib.Dec.{ltb, eqb}
-use Rattle.model.specs.Limits.{row-room, workspace-room}
+use Rattle.model.specs.Limits.{row-room, workspace-room, bounds-room}
 use Rattle.vectors.specs.declared.record.Record.{Record}
 
 -- numbers more than any call needs
@@ -24,6 +24,10 @@ byte-capacity = 2560
 -- the most numbers of a workspace that a record may ask for
 abbrev pub workspace-capacity : ℕ
 workspace-capacity = workspace-room + spare
+
+-- the most numbers of a lent row of bounds that a record may ask for
+abbrev pub bounds-capacity : ℕ
+bounds-capacity = bounds-room + spare
 
 -- the length of the row in use after any record: another than a row's, of kind 0, leaves it
 unfoldable pub used-after : Record → ℕ → ℕ → ℕ

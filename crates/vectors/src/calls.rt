@@ -3,6 +3,7 @@ ghost use mathlib.Core.Path.{_≡_};
 ghost use lib.ListN.{length, replicate};
 ghost use Rattle.vectors.specs.Rooms.{workspace-capacity};
 use crate::format;
+use crate::openings;
 use crate::record::Record;
 use crate::rooms;
 use crate::sums;
@@ -54,7 +55,8 @@ fn call_in(record: Record, row: &[u32], workspace: &mut [u32]) {
         3 => ask(head, Question::High(number), row, workspace),
         4 => ask(head, Question::Low(number), row, workspace),
         8 => fails(head, number, row, workspace),
-        _ => least(head, target, row, workspace),
+        10 => least(head, target, row, workspace),
+        _ => openings::lend(head, number, record.fill, row, workspace),
     }
 }
 

@@ -2,6 +2,7 @@
 // what it left in lent memory. docs/src/records.py says how the list is laid out; docs/src/reference.py writes it and the lines expected.
 mod calls;
 mod format;
+mod openings;
 mod record;
 mod rooms;
 mod sums;

@@ -8,5 +8,7 @@ pub const ROW: usize = limits::ROW + SPARE;
 
 pub const WORKSPACE: usize = limits::WORKSPACE + SPARE;
 
+pub const BOUNDS: usize = limits::BOUNDS + SPARE;
+
 // More than the 2,480 bytes of the longest plan that the bits of a head can ask for, most of which are refused.
 pub const BYTES: usize = 2560;

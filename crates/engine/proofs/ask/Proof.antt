@@ -21,7 +21,8 @@ use Rattle.month_rule.specs.Shapes.{rows-size}
 use Rattle.engine.specs.Answers.{answer}
 use Rattle.engine.specs.declared.bounds.LastRows.the-variants.{Placed}
 use Rattle.engine.specs.LastRows.{LastFits, opening-value}
-use Rattle.engine.proofs.AskLaws.{Asked, asked, shape-rows, shape-width}
+use Rattle.questions.proofs.RefusalLaws.{Asked, asked}
+use Rattle.questions.proofs.ShapeLaws.{shape-rows, shape-width}
 use Rattle.engine.proofs.AnswerLaws.{refused-out, answered-out, needed-halves, bound-is, bound-none}
 use Rattle.engine.proofs.ask.Statement.{statement}
 use Rattle.engine.proofs.ask.Tie as tie

@@ -15,10 +15,11 @@ use Rattle.model.proofs.Facts.{Facts, facts, accepted-head, horizon-is}
 use Rattle.model.proofs.Theorems.{ruin-enclosure}
 use Rattle.month_rule.specs.Shapes.{rows-size}
 use Rattle.engine.specs.declared.bounds.LastRows.the-variants.{Ruin}
-use Rattle.engine.specs.Questions.{shape-of}
+use Rattle.questions.specs.Needs.{shape-of}
 use Rattle.engine.specs.Answers.{ruin-answer}
 use Rattle.engine.specs.LastRows.{opening-value}
-use Rattle.engine.proofs.AskLaws.{Asked, asked, month-inside, shape-width}
+use Rattle.questions.proofs.RefusalLaws.{Asked, asked, month-inside}
+use Rattle.questions.proofs.ShapeLaws.{shape-width}
 use Rattle.engine.proofs.AnswerLaws.{refused-out, answered-out, needed-halves, ruin-bound-is, ruin-fits}
 use Rattle.engine.proofs.ruin_in_month.Statement.{statement}
 use Rattle.engine.proofs.ruin_in_month.Tie as tie

@@ -8,10 +8,11 @@ use lib.Seq.{length-take-le}
 use Rattle.model.specs.Levels.{row-levels}
 use Rattle.model.specs.Refusal.{survival-workspace}
 use Rattle.model.proofs.Facts.{Facts, facts, accepted-head}
-use Rattle.engine.proofs.AskLaws.{Asked}
+use Rattle.questions.proofs.RefusalLaws.{Asked}
 use Rattle.engine.proofs.AnswerLaws.{terms-lent}
 use Rattle.opening.specs.Refusal.{target-outside, target-refusal}
-use Rattle.opening.proofs.Theorems.{known, refused-is, search-is, untouched, needed-is, cleared-is, lent-is, target-inside, clauses}
+use Rattle.survival.proofs.Theorems.{untouched, needed-is, cleared-is}
+use Rattle.opening.proofs.Theorems.{known, refused-is, search-is, lent-is, target-inside, clauses}
 use Rattle.opening.proofs.least.Statement.{statement}
 use Rattle.opening.proofs.least.Tie as tie
 
@@ -38,7 +39,7 @@ returns c =
     let n = at-check .check in
     clauses (a .head) (a .row .now) (a .target) (a .workspace .now) (a .workspace .now) (c .refused .result)
     (refused-is (a .head) (a .row .now) (a .target) (length (a .workspace .now)) (n .result) (c .refused .result) (c .refused .ensures) (n .ensures) (c .before .if1 .taken))
-    (untouched (a .head) (a .row .now) (a .target) (n .result) (a .workspace .now) (n .ensures) (c .before .if1 .taken))
+    (untouched (n .result) _ (survival-workspace (a .head)) (a .workspace .now) (n .ensures) (c .before .if1 .taken))
 
 -- what is known where no check fits
 none-fits : (c : tie.Else1) → let a = start (c .before) .args in target-refusal (a .head) (a .row .now) (a .target) (length (a .workspace .now)) ≡ 0
@@ -109,7 +110,7 @@ returns-2 c =
     let row = a .row .now in
     clauses h row (a .target) (a .workspace .now) _ (worked .search .result)
     (lent-is h row (a .target) (worked .search .result) (worked .search .ensures .0) ∙ search-is h row (a .target) (length (a .workspace .now)) (none-fits else1))
-    (cleared-is h row (a .target) (2 * at-levels .row-levels .result) (a .workspace .now) (worked .search .last .0) (none-fits else1)
+    (cleared-is _ (2 * at-levels .row-levels .result) (survival-workspace h) (a .workspace .now) (worked .search .last .0) (none-fits else1)
     (needed-is h (at-levels .row-levels .result) (at-levels .row-levels .ensures)) (enough at-levels) (worked .search .ensures .1))
 
 pub least-spec : {M : Type 1} → statement M

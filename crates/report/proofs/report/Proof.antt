@@ -7,32 +7,24 @@ use Rattle.text.proofs.TextLaws.{appended-whole}
 use Rattle.report.proofs.report.Statement.{statement}
 use Rattle.report.proofs.report.Tie as tie
 
-blank-row-requires : tie.Need-blank-row-requires
-blank-row-requires c κs = search needs
-
 workspace-requires : tie.Need-workspace-requires
 workspace-requires c κs = search needs
 
 slice-aggregate-put-report : tie.Need-slice-aggregate-put-report
 slice-aggregate-put-report c = search needs
 
-slice-aggregate-put-report-2 : tie.Need-slice-aggregate-put-report-2
-slice-aggregate-put-report-2 c = search needs
-
 put-report-requires : tie.Need-put-report-requires
 unfolding most-lines gain
-put-report-requires c κs = record { of-text = omega arith; of-row = search needs; of-workspace = search needs }
+put-report-requires c κs = (omega arith, search needs)
 
 returns : tie.Need-returns
-returns c = appended-whole (c .before .before .put-report .ensures .0)
+returns c = appended-whole (c .before .put-report .ensures .0)
 
 pub report-spec : {M : Type 1} → statement M
 report-spec =
     tie.close
     (tie.spec
-    blank-row-requires
     workspace-requires
     slice-aggregate-put-report
-    slice-aggregate-put-report-2
     put-report-requires
     returns)

@@ -7,7 +7,8 @@ use borrow.Author.Needs.{needs}
 use lib.ListN.{length, replicate}
 use Rattle.model.specs.declared.Rounding.the-variants.{Down}
 use Rattle.model.proofs.LevelLaws.{level-from}
-use Rattle.opening.specs.Rows.{survival-row, Walk}
+use Rattle.survival.specs.Rows.{survival-row}
+use Rattle.opening.specs.Rows.{Walk}
 use Rattle.opening.proofs.LeastLaws.{least-below}
 use Rattle.opening.proofs.WalkLaws.{none-reached, openings-are, some-opening, least-is-same}
 use Rattle.opening.proofs.rows.least_lower.Statement.{statement}

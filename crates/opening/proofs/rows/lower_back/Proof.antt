@@ -12,7 +12,7 @@ use Rattle.model.specs.Scale.{S}
 use Rattle.model.specs.Levels.{gain, largest-level}
 use Rattle.model.specs.Refusal.{outside}
 use Rattle.month_rule.specs.Shapes.{TakenBack}
-use Rattle.engine.specs.Questions.{shape-of}
+use Rattle.questions.specs.Needs.{shape-of}
 use Rattle.opening.specs.Rows.{Walk}
 use Rattle.opening.proofs.WalkLaws.{Walking, rows-in, top-in, month-inside, walking-start, walked, walking-on, giving-up, as-lent, walked-all, walked-end}
 use Rattle.opening.proofs.rows.lower_back.Statement.{statement}

@@ -6,7 +6,7 @@ use native.Mathlib.Omega.{arith}
 use borrow.Author.Needs.{needs}
 use Rattle.model.specs.Plan.{plan-of}
 use Rattle.model.specs.Refusal.{month-outside}
-use Rattle.engine.proofs.AskLaws.{inside-month}
+use Rattle.questions.proofs.RefusalLaws.{inside-month}
 use Rattle.text.proofs.TextLaws.{line-fits}
 use Rattle.report_lines.specs.Asking.{Answerable}
 use Rattle.report_lines.proofs.AskingLaws.{cleared-long, answerable-still, ruined-clears}

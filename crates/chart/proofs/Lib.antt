@@ -1,0 +1,2 @@
+-- The laws of the chart.
+pub mod Laws

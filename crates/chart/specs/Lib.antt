@@ -1,0 +1,2 @@
+-- The planner's chart as bytes.
+pub mod Chart

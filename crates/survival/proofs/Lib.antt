@@ -1,0 +1,4 @@
+-- The laws that the functions' proofs, and the calls above, cite.
+pub mod PairLaws
+pub mod RowLaws
+pub mod Theorems

@@ -1,0 +1,3 @@
+-- What the contracts cite: Openings for the call, Rows below it.
+pub mod Openings
+pub mod Rows
