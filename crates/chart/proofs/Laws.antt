@@ -1,5 +1,5 @@
 -- Laws of the chart: what it is for an accepted plan and for a refusal, its lines from the pairs in memory, and inputs longer than every plan.
-use Prim.Native.Nat.{ℕ, _+_, _*_, _≤_}
+use Prim.Native.Nat.{ℕ, _+_, _≤_}
 use mathlib.Core.Path.{_≡_}
 use mathlib.Core.List.{List, [], _∷_}
 use native.Mathlib.Omega.{arith}

@@ -1,13 +1,11 @@
 -- What the call's answer says, of every plan, target and workspace: the clauses of its contract, from the definition.
-use Prim.Native.Nat.{ℕ, zero, suc, _+_, _*_, _-_, _≤_, _<_}
+use Prim.Native.Nat.{ℕ, zero, suc, _+_, _-_, _≤_, _<_}
 use mathlib.Core.Path.{_≡_, refl, sym, _∙_, ap, fun-ext}
 use mathlib.Core.Bool.{Bool, true, false, cond}
-use mathlib.Core.List.{List, [], _∷_, _++_}
-use native.Mathlib.Nat.{mul-one}
+use mathlib.Core.List.{List, [], _∷_}
 use native.Mathlib.Omega.{arith}
 use lib.Dec.{leb, ltb, eqb}
-use lib.ListN.{length, take, drop, replicate}
-use lib.Seq.{length-take-le}
+use lib.ListN.{length, take, drop}
 use borrow.Author.Tests.{lt-leb, leb-true, leb-false, ltb-true, ltb-false, lt-ltb, ne-eqb, eqb-false}
 use Rattle.model.specs.declared.Head.{Head}
 use Rattle.model.specs.declared.Rounding.{Rounding}
@@ -16,19 +14,15 @@ use Rattle.model.specs.declared.Question.the-variants.{Survive}
 use Rattle.model.specs.Scale.{S}
 use Rattle.model.specs.Sums.{all}
 use Rattle.model.specs.Plan.{plan-of, opened}
-use Rattle.model.specs.Levels.{row-levels}
 use Rattle.model.specs.Exact.{exact}
-use Rattle.model.specs.MonthRule.{month, opening-allowed}
-use Rattle.model.specs.Bounds.{bound, lower, upper, Encloses}
-use Rattle.model.specs.Refusal.{first, head-checks, length-check, number-checks, plan-checks, asked-checks, bounds-checks, bounds-refusal, Accepted, outside, rows-needed, workspace-needed, survival-workspace}
-use Rattle.model.proofs.LevelLaws.{level-from}
+use Rattle.model.specs.Bounds.{lower, upper, Encloses}
+use Rattle.model.specs.Refusal.{first, head-checks, length-check, number-checks, plan-checks, asked-checks, bounds-checks, bounds-refusal, Accepted, outside, survival-workspace}
 use Rattle.model.proofs.Facts.{neither, not-zero, numbered, none-fits, none-fits-append, first-append, first-below, opened-accepted}
-use Rattle.model.proofs.Opening.{value-allowed}
 use Rattle.model.proofs.Theorems.{enclosure}
 use Rattle.engine.specs.declared.Answer.{Answer}
-use Rattle.engine.specs.Answers.{bounds-answer, cleared-after, answer}
+use Rattle.engine.specs.Answers.{bounds-answer, answer}
 use Rattle.engine.proofs.AnswerLaws.{severity-lent}
-use Rattle.questions.proofs.RefusalLaws.{Asked, asked, asked-decides, bounds-refusal-is, bounds-numbered, not-refused}
+use Rattle.questions.proofs.RefusalLaws.{Asked, asked, asked-decides, bounds-refusal-is, bounds-numbered}
 use Rattle.opening.specs.declared.LeastAnswer.{LeastAnswer}
 use Rattle.opening.specs.Least.{least, reaches, least-opening}
 use Rattle.opening.specs.Refusal.{target-outside, target-checks, target-refusal, none-reaches, least-refusal}

@@ -14,7 +14,7 @@ use Rattle.model.specs.declared.Question.the-variants.{Survive}
 use Rattle.model.specs.Scale.{S}
 use Rattle.model.specs.Levels.{gain, largest-level}
 use Rattle.model.specs.MonthRule.{month, month-back, kept, values, rule-of, last-of, claims-of, all-placed}
-use Rattle.model.proofs.LevelLaws.{level-start, level-from, level-later, reachable}
+use Rattle.model.proofs.LevelLaws.{level-start, level-later, reachable}
 use Rattle.model.proofs.SumLaws.{below-or-not}
 use Rattle.model.proofs.Values.{values-never-above, claims-alike}
 use Rattle.claims.specs.Values.{from-top, Parts}

@@ -1,6 +1,6 @@
 -- Laws of the rows of survival: a plan's bounds at each opening are one row, and so is what the months leave in memory.
-use Prim.Native.Nat.{ℕ, zero, suc, _+_, _*_, _-_, _≤_, _<_}
-use mathlib.Core.Path.{_≡_, refl, sym, _∙_, ap}
+use Prim.Native.Nat.{ℕ, _-_, _≤_, _<_}
+use mathlib.Core.Path.{_≡_, refl, sym, _∙_}
 use mathlib.Core.List.{List}
 use native.Mathlib.Nat.{zero-mul, one-mul}
 use native.Mathlib.Omega.{arith}
@@ -8,7 +8,6 @@ use lib.ListN.{length}
 use Rattle.model.specs.declared.Head.{Head}
 use Rattle.model.specs.declared.Rounding.{Rounding}
 use Rattle.model.specs.declared.Question.the-variants.{Survive}
-use Rattle.model.specs.Scale.{S}
 use Rattle.model.specs.Plan.{plan-of, opened}
 use Rattle.model.specs.Levels.{largest-level}
 use Rattle.model.specs.MonthRule.{month, opening-allowed, all-placed, last-of}

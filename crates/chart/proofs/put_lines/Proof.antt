@@ -1,8 +1,7 @@
 -- `chart::put_lines` meets its contract. The invariant: the lines of the first v openings are appended.
-use Prim.Native.Nat.{_+_, _*_, _-_, _<_}
+use Prim.Native.Nat.{_+_, _-_}
 use native.Mathlib.Omega.{arith}
 use borrow.Author.Needs.{needs}
-use lib.ListN.{length}
 use Rattle.text.proofs.TextLaws.{Appending, appending-start, appending-room-each, appending-turn, appending-done}
 use Rattle.report_lines.specs.Lines.{line-room}
 use Rattle.chart.specs.Chart.{pair-line}

@@ -1,5 +1,4 @@
 -- `chart::put_plan` meets its contract: the call refuses nothing here, and its pairs give the plan's lines.
-use Prim.Native.Nat.{_*_}
 use mathlib.Core.Path.{_≡_, sym, ap, _∙_}
 use native.Mathlib.Nat.{mul-le-mul-right}
 use native.Mathlib.Omega.{arith}

@@ -1,17 +1,17 @@
 -- `put_openings` meets its contract: each half is a row of survival (`back-is`), and the pairs are of these.
-use Prim.Native.Nat.{ℕ, _+_, _*_, _<_, _≤_}
+use Prim.Native.Nat.{ℕ, _+_, _*_, _<_}
 use mathlib.Core.Path.{_≡_, refl, sym, ap, _∙_}
 use mathlib.Core.List.{List}
 use native.Mathlib.Omega.{arith}
 use borrow.Author.Needs.{needs}
-use lib.ListN.{length, getD, take, drop, replicate}
+use lib.ListN.{length, replicate}
 use Rattle.model.specs.declared.Rounding.{Rounding}
 use Rattle.model.specs.declared.Rounding.the-variants.{Down, Up}
-use Rattle.model.specs.Levels.{gain, largest-level, row-levels}
+use Rattle.model.specs.Levels.{gain, largest-level}
 use Rattle.model.specs.MonthRule.{all-placed}
 use Rattle.model.specs.Refusal.{outside}
 use Rattle.claims.specs.Values.{from-top}
-use Rattle.month_rule.specs.Shapes.{rows-size, values-in, HalvesIn, TakenBack}
+use Rattle.month_rule.specs.Shapes.{values-in, HalvesIn, TakenBack}
 use Rattle.survival.specs.Rows.{survival-row}
 use Rattle.survival.proofs.PairLaws.{pairs-agree}
 use Rattle.survival.proofs.RowLaws.{OneRow, one-row, back-is}

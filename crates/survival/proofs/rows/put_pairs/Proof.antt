@@ -4,7 +4,7 @@ use mathlib.Core.Path.{_≡_, sym, ap, _∙_}
 use native.Mathlib.Omega.{arith}
 use borrow.Author.Needs.{needs}
 use borrow.Rule.Slice.PartMut.{midOf}
-use lib.ListN.{length, getD, take, drop, length-drop, length-take, length-set}
+use lib.ListN.{length, getD, take, drop, length-drop, length-set}
 use lib.Seq.{take-all, length-take-le}
 use Rattle.model.proofs.Filling.{Filling, filling-none}
 use Rattle.claims.specs.Values.{from-top}
