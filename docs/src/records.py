@@ -30,7 +30,7 @@ from sheets import made_bytes, made_plan, sheet_checks
 KINDS = ["row", "survive", "both", "high", "low", "count", "write", "read", "fails", "claims", "least", "openings"]
 FULL_NUMBER = 2**32 - 1  # the largest number that a row or a workspace can hold
 
-# The room that the program lends, as in crates/vectors/src/rooms.rt. It passes over a record that needs more.
+# The room that the program lends, as in crates/test_vectors/src/rooms.rt. It passes over a record that needs more.
 SPARE = 6  # numbers more than any call needs
 ROW = row_length(LARGEST) + SPARE
 WORKSPACE = workspace_needed(LARGEST, MOST_ASKED) + SPARE

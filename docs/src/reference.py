@@ -79,6 +79,12 @@ def print_repeat(word, number, times, plan="none-empty"):
     sys.stdout.buffer.write(b"".join(calls.records))
 
 
+def whole(word):
+    if not (word.isascii() and word.isdecimal()):
+        sys.exit(f"not a whole number: {word}")
+    return int(word)
+
+
 def print_plan(n, u, m, *row):
     number = refusal(write_checks(Head(n, u, m), row, math.inf))
     if number:
@@ -96,7 +102,11 @@ def print_plan_of_sheet(data):
 
 
 def print_sheet(kind, n, u, m, *doubles):
-    sys.stdout.buffer.write(struct.pack(">BBBH3d", int(kind), int(n), int(u), int(m), *map(float, doubles)))
+    try:
+        data = struct.pack(">BBBH3d", *map(whole, (kind, n, u, m)), *map(float, doubles))
+    except (ValueError, struct.error) as wrong:
+        sys.exit(f"no sheet: {wrong}")
+    sys.stdout.buffer.write(data)
 
 
 def write_sheet_example(folder):
@@ -104,7 +114,7 @@ def write_sheet_example(folder):
     write_test(folder, data, made_bytes(data))
 
 
-GOOD_ENOUGH = 1063004405  # parts of S: 0.99, rounded down
+GOOD_ENOUGH = 1063004406  # parts of S: 0.99, rounded up, as a promise is
 
 
 def write_least_example(folder):
@@ -145,7 +155,7 @@ def main(words):
         case ["report"]:
             sys.stdout.write(report(sys.stdin.buffer.read()))
         case ["plan", n, u, m, *row] if row:
-            print_plan(*map(int, words[1:]))
+            print_plan(*map(whole, words[1:]))
         case ["cases"]:
             print_cases()
         case ["repeat", word, number, times, *plan] if len(plan) <= 1:

@@ -12,9 +12,9 @@ use Rattle.engine.specs.declared.Answer.{Answer}
 use Rattle.engine.specs.Answers.{bounds-answer}
 use Rattle.survival.specs.Openings.{openings-refusal, bounds-after}
 use Rattle.survival.proofs.Theorems.{pair-is, pair-asked}
-use Rattle.opening.specs.declared.LeastAnswer.{LeastAnswer}
-use Rattle.opening.specs.Answers.{least-answer, Least}
-use Rattle.opening.proofs.Theorems.{answer-is-least}
+use Rattle.opening_search.specs.declared.LeastAnswer.{LeastAnswer}
+use Rattle.opening_search.specs.Answers.{least-answer, Least}
+use Rattle.opening_search.proofs.Theorems.{answer-is-least}
 use Rattle.calls.proofs.LargerOpenings.{opened-grows}
 
 -- the lent row after a call that was not refused

@@ -1,10 +1,8 @@
 -- What is known of a call that was not refused: the plan is accepted, and the numbers answered are the definitions'.
-use mathlib.Core.Path.{_≡_, refl, sym, _∙_}
-use mathlib.Core.Bool.{cond}
+use mathlib.Core.Path.{_≡_, refl, sym, ap, _∙_}
 use mathlib.Core.List.{List}
 use Prim.Native.Nat.{ℕ, zero, suc, _≤_, _<_}
 use native.Mathlib.Omega.{arith}
-use lib.Dec.{eqb}
 use lib.ListN.{getD}
 use borrow.Author.Tests.{ne-eqb}
 use Rattle.model.specs.declared.Head.{Head}
@@ -17,8 +15,9 @@ use Rattle.model.specs.Bounds.{lower, upper, ruin-lower, ruin-upper, count-lowe
 use Rattle.model.specs.Refusal.{plan-refusal, Accepted}
 use Rattle.model.proofs.Facts.{facts, horizon-is}
 use Rattle.model.proofs.Counts.{getD-tabulate}
-use Rattle.engine.specs.declared.CountRow.{CountRow}
-use Rattle.engine.specs.Answers.{refused, bounds-answer, answer, ruin-answer, count-rows, count-refused, count-answer}
+use Rattle.count_row.specs.declared.CountAnswer.{CountAnswer}
+use Rattle.engine.specs.Answers.{refused, bounds-answer, answer, ruin-answer}
+use Rattle.count_row.specs.Answers.{count-rows, count-refused, count-answer}
 use Rattle.questions.proofs.RefusalLaws.{asked, month-inside}
 
 -- an answer gives its refusal's number, and its bounds where that is 0
@@ -73,16 +72,23 @@ pub record CountAnswered (h : Head) (row : List ℕ) : Type 0 where
   pub low : (k : ℕ) → k < places → getD (count-answer h row .row .lower) k 0 ≡ count-lower (plan-of h row) k
   pub high : (k : ℕ) → k < places → getD (count-answer h row .row .upper) k 0 ≡ count-upper (plan-of h row) k
 
-pub count-answered : (h : Head) (row : List ℕ) → count-answer h row .refusal ≡ 0 → CountAnswered h row
-unfolding count-answer count-refused count-rows
-count-answered h row e =
-    let accepted : Accepted h row = sym (number (plan-refusal h row) (count-rows (plan-of h row .chances))) ∙ e in
+pub count-accepted : (h : Head) (row : List ℕ) → Accepted h row → CountAnswered h row
+unfolding count-answer count-rows
+count-accepted h row accepted =
     record {
       accepted = accepted;
       low = λ k l. rw accepted (getD-tabulate places (count-row Down (plan-of h row .chances)) k l);
       high = λ k l. rw accepted (getD-tabulate places (count-row Up (plan-of h row .chances)) k l);
     }
+
+pub count-of-refused : (h : Head) (row : List ℕ) (n : ℕ) → plan-refusal h row ≡ suc n → count-answer h row ≡ count-refused (suc n)
+unfolding count-answer
+count-of-refused h row n refused = rw (refused, ne-eqb (suc n) 0 (λ z. omega (arith, z)))
+
+pub count-answered : (h : Head) (row : List ℕ) → count-answer h row .refusal ≡ 0 → CountAnswered h row
+unfolding count-refused
+count-answered h row e = go (plan-refusal h row) refl
   where
-    number : (n : ℕ) (rows : CountRow) → (cond (eqb n 0) (record { refusal = 0; row = rows }) (count-refused n)) .refusal ≡ n
-    number zero rows = refl
-    number (suc n) rows = rw (ne-eqb (suc n) 0 (λ z. omega (arith, z)))
+    go : (n : ℕ) → plan-refusal h row ≡ n → CountAnswered h row
+    go zero accepted = count-accepted h row accepted
+    go (suc n) refused = absurd (omega (arith, sym (ap (λ (a : CountAnswer). a .refusal) (count-of-refused h row n refused)) ∙ e))

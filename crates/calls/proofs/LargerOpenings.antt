@@ -10,9 +10,9 @@ use Rattle.model.specs.Sensitivity.{OnlyOpeningGrows}
 use Rattle.engine.specs.declared.Answer.{Answer}
 use Rattle.engine.specs.Answers.{bounds-answer, answer}
 use Rattle.survival.specs.Openings.{opening-ask}
-use Rattle.opening.specs.declared.LeastAnswer.{LeastAnswer}
-use Rattle.opening.specs.Answers.{least-answer, Least}
-use Rattle.opening.proofs.Theorems.{answer-is-least, allowed-answered}
+use Rattle.opening_search.specs.declared.LeastAnswer.{LeastAnswer}
+use Rattle.opening_search.specs.Answers.{least-answer, Least}
+use Rattle.opening_search.proofs.Theorems.{answer-is-least, allowed-answered}
 use Rattle.calls.proofs.TwoCalls.{survival-answers-rise}
 
 -- two openings of one plan

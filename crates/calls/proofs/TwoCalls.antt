@@ -16,8 +16,9 @@ use Rattle.model.specs.Bounds.{months-to}
 use Rattle.model.specs.Sensitivity.{OnlyChancesDiffer, OnlyOpeningGrows, distance, chances-apart, Moves}
 use Rattle.model.proofs.TwoPlans.{question-moves, bounds-move, ruin-moves, ruin-bounds-move, count-moves, count-bounds-move, survival-rises}
 use Rattle.engine.specs.declared.Answer.{Answer}
-use Rattle.engine.specs.declared.CountRow.{CountRow}
-use Rattle.engine.specs.Answers.{answer, ruin-answer, count-answer}
+use Rattle.count_row.specs.declared.CountRow.{CountRow}
+use Rattle.engine.specs.Answers.{answer, ruin-answer}
+use Rattle.count_row.specs.Answers.{count-answer}
 use Rattle.calls.proofs.Answered.{Answered, answered, RuinAnswered, ruin-answered, CountAnswered, count-answered}
 
 -- what holds of the definitions' numbers holds of the answered ones

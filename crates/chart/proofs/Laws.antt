@@ -9,8 +9,8 @@ use Rattle.model.specs.declared.Head.{Head}
 use Rattle.model.specs.Limits.{row-room}
 use Rattle.model.specs.Format.{head-of, row-of}
 use Rattle.model.specs.Refusal.{read-refusal}
-use Rattle.model.proofs.Rooms.{figures}
-use Rattle.codec.proofs.LongInput.{first-part}
+use Rattle.codec.specs.Input.{input-room}
+use Rattle.codec.proofs.LongInput.{reads-enough as LongInput·reads-enough}
 use Rattle.survival.specs.Openings.{openings-refusal, bounds-after}
 use Rattle.survival.proofs.Theorems.{pair-is}
 use Rattle.text.specs.Text.{ascii, joined}
@@ -38,10 +38,6 @@ unfolding chart-lines
 lines-are h row ws bounds left is none =
     joined-same (h .opening + 1) (λ v l. let pair = pair-is h row ws bounds left is none v (omega arith) in rw (pair .0, pair .1))
 
--- the bytes of the program's buffer for a plan
-abbrev buffer : ℕ
-buffer = 4096
-
--- what is printed of them is what is printed of all its input
-pub reads-enough : (bytes : List ℕ) → chart-of (take buffer bytes) ≡ chart-of bytes
-reads-enough bytes = first-part chart-of refused-line row-room chart-refused bytes buffer (omega (arith, figures .plan-bytes))
+-- what the program prints is the chart of all its input
+pub reads-enough : (bytes : List ℕ) → chart-of (take input-room bytes) ≡ chart-of bytes
+reads-enough = LongInput·reads-enough chart-of refused-line row-room chart-refused

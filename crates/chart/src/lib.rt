@@ -4,8 +4,9 @@ use numbers::wide;
 use plan::lengths::row_length;
 use report_lines::lines::put_numbered;
 use report_lines::lines::put_refused;
+use rooms::blank_bounds;
+use rooms::blank_survival_workspace;
 use survival::all_openings;
-use survival::rooms;
 ghost use mathlib.Core.Path.{_≡_};
 ghost use Prim.Native.Nat.{_+_, _*_, _≤_};
 ghost use mathlib.Core.List.{_++_};
@@ -49,8 +50,8 @@ fn put_plan(text: &mut [u8], head: Head, row: &[u32]) -> usize
     ensures { λ r. ⌜ Appended (now (text .entry)) 0 (chart-lines head (take (row-length head) (now (row .entry)))) (now (text .exit)) r ⌝ }
 {
     let used = row_length(head);
-    let mut workspace = rooms::workspace();
-    let mut bounds = rooms::bounds();
+    let mut workspace = blank_survival_workspace();
+    let mut bounds = blank_bounds();
     all_openings(head, &row[..used], &mut workspace, &mut bounds);
     put_lines(text, &bounds, head.opening)
 }

@@ -16,75 +16,75 @@ use Rattle.model.specs.Plan.{nth}
 use Rattle.model.specs.FilledSizes.{filled-sizes}
 use Rattle.model.proofs.SumLaws.{below-or-not}
 use Rattle.model.proofs.FilledLaws.{filled-from, filled-more, filled-same, filled-inside, filled-agree}
-use Rattle.claims.specs.Listing.{within, gapless, NoGap, ListsRange, Listing}
+use Rattle.claims.specs.Listing.{in-range, gapless, NoGap, ListsRange, Listing}
 
 -- a list whose first number lies within a bound, and one whose first does not
-pub within-keep : (most x : ℕ) (xs : List ℕ) → x ≤ most → within most (x ∷ xs) ≡ x ∷ xs
-unfolding within
-within-keep most x xs l = rw (le-leb x most l)
+pub range-keep : (most x : ℕ) (xs : List ℕ) → x ≤ most → in-range most (x ∷ xs) ≡ x ∷ xs
+unfolding in-range
+range-keep most x xs l = rw (le-leb x most l)
 
-pub within-pass : (most x : ℕ) (xs : List ℕ) → most < x → within most (x ∷ xs) ≡ within most xs
-unfolding within
-within-pass most x xs l = rw (lt-leb x most l)
+pub range-pass : (most x : ℕ) (xs : List ℕ) → most < x → in-range most (x ∷ xs) ≡ in-range most xs
+unfolding in-range
+range-pass most x xs l = rw (lt-leb x most l)
 
-within-all : (most : ℕ) (xs : List ℕ) → ((k : ℕ) → k < length xs → getD xs k 0 ≤ most) → within most xs ≡ xs
-unfolding within
-within-all most [] h = refl
-within-all most (x ∷ xs) h = within-keep most x xs (h 0 (omega arith))
+range-all : (most : ℕ) (xs : List ℕ) → ((k : ℕ) → k < length xs → getD xs k 0 ≤ most) → in-range most xs ≡ xs
+unfolding in-range
+range-all most [] h = refl
+range-all most (x ∷ xs) h = range-keep most x xs (h 0 (omega arith))
 
 -- The filled sizes within a narrower range are those of that range.
-within-filled : (F : List ℕ) (n m : ℕ) → n ≤ m → within n (filled-sizes F m) ≡ filled-sizes F n
-within-filled F n m l = rw (sub-add-cancel l) at (filled-from F Narrowed n first more same (m - n)) .1
+range-filled : (F : List ℕ) (n m : ℕ) → n ≤ m → in-range n (filled-sizes F m) ≡ filled-sizes F n
+range-filled F n m l = rw (sub-add-cancel l) at (filled-from F Narrowed n first more same (m - n)) .1
   where
     Narrowed : ℕ → List ℕ → Type 0
-    Narrowed k xs = (n ≤ k) × (within n xs ≡ filled-sizes F n)
+    Narrowed k xs = (n ≤ k) × (in-range n xs ≡ filled-sizes F n)
 
     first : Narrowed n (filled-sizes F n)
-    first = (le-refl n, within-all n (filled-sizes F n) (λ k i. filled-inside F n k i .1))
+    first = (le-refl n, range-all n (filled-sizes F n) (λ k i. filled-inside F n k i .1))
 
     more : (k : ℕ) (xs : List ℕ) → 0 < nth F (suc k) → Narrowed k xs → Narrowed (suc k) (suc k ∷ xs)
-    more k xs w h = (omega (arith, h .0), within-pass n (suc k) xs (omega (arith, h .0)) ∙ h .1)
+    more k xs w h = (omega (arith, h .0), range-pass n (suc k) xs (omega (arith, h .0)) ∙ h .1)
 
     same : (k : ℕ) (xs : List ℕ) → nth F (suc k) ≡ 0 → Narrowed k xs → Narrowed (suc k) xs
     same k xs z h = (omega (arith, h .0), h .1)
 
 -- a narrower range of a narrower range
-pub within-within : (n m : ℕ) (xs : List ℕ) → n ≤ m → within n (within m xs) ≡ within n xs
-unfolding within
-within-within n m [] l = refl
-within-within n m (x ∷ xs) l = go (leb x m) refl (within-within n m xs l)
+pub range-of-range : (n m : ℕ) (xs : List ℕ) → n ≤ m → in-range n (in-range m xs) ≡ in-range n xs
+unfolding in-range
+range-of-range n m [] l = refl
+range-of-range n m (x ∷ xs) l = go (leb x m) refl (range-of-range n m xs l)
   where
-    go : (b : Bool) → leb x m ≡ b → within n (within m xs) ≡ within n xs → within n (cond b (x ∷ xs) (within m xs)) ≡ within n (x ∷ xs)
+    go : (b : Bool) → leb x m ≡ b → in-range n (in-range m xs) ≡ in-range n xs → in-range n (cond b (x ∷ xs) (in-range m xs)) ≡ in-range n (x ∷ xs)
     go true e h = refl
-    go false e h = let beyond = leb-false x m e in h ∙ sym (within-pass n x xs (omega arith))
+    go false e h = let beyond = leb-false x m e in h ∙ sym (range-pass n x xs (omega arith))
 
 -- the search for the first number within a bound
 pub record Searching (sizes : List ℕ) (from most k : ℕ) : Type 0 where
   pub inside : k ≤ length sizes
-  pub passed : within most (drop k sizes) ≡ within most (drop from sizes)
+  pub passed : in-range most (drop k sizes) ≡ in-range most (drop from sizes)
 
 pub searching-turn :
     (sizes : List ℕ) (from most k : ℕ) → k < length sizes → most < getD sizes k 0 → Searching sizes from most k → Searching sizes from most (k + 1)
 searching-turn sizes from most k l m h =
     record {
       inside = omega arith;
-      passed = rw (add-one, ← within-pass most (getD sizes k 0) (drop (suc k) sizes) m, ← drop-cons sizes k 0 l) (h .passed);
+      passed = rw (add-one, ← range-pass most (getD sizes k 0) (drop (suc k) sizes) m, ← drop-cons sizes k 0 l) (h .passed);
     }
 
 pub searching-found :
-    (sizes : List ℕ) (from most k : ℕ) → k < length sizes → getD sizes k 0 ≤ most → Searching sizes from most k → drop k sizes ≡ within most (drop from sizes)
+    (sizes : List ℕ) (from most k : ℕ) → k < length sizes → getD sizes k 0 ≤ most → Searching sizes from most k → drop k sizes ≡ in-range most (drop from sizes)
 searching-found sizes from most k l m h =
     drop-cons sizes k 0 l
-    ∙ sym (within-keep most (getD sizes k 0) (drop (suc k) sizes) m)
-    ∙ ap (within most) (sym (drop-cons sizes k 0 l))
+    ∙ sym (range-keep most (getD sizes k 0) (drop (suc k) sizes) m)
+    ∙ ap (in-range most) (sym (drop-cons sizes k 0 l))
     ∙ h .passed
 
 pub searching-none :
-    (sizes : List ℕ) (from most k : ℕ) → length sizes ≤ k → Searching sizes from most k → drop k sizes ≡ within most (drop from sizes)
-unfolding within
+    (sizes : List ℕ) (from most k : ℕ) → length sizes ≤ k → Searching sizes from most k → drop k sizes ≡ in-range most (drop from sizes)
+unfolding in-range
 searching-none sizes from most k l h =
     let none : drop k sizes ≡ [] = drop-of-length-le sizes {i = k} l in
-    none ∙ ap (within most) (sym none) ∙ h .passed
+    none ∙ ap (in-range most) (sym none) ∙ h .passed
 
 empty : (xs : List ℕ) → length xs ≡ 0 → xs ≡ []
 empty [] e = refl
@@ -162,21 +162,21 @@ pub listed-end :
 listed-end F sizes count x dense l m h = let here : x ≡ dense = omega arith in rw here at (h .whole)
 
 -- numbers that all lie within a bound, after others
-within-append : (most : ℕ) (xs ys : List ℕ) → within most ys ≡ ys → within most (xs ++ ys) ≡ within most xs ++ ys
-unfolding within
-within-append most [] ys h = h
-within-append most (x ∷ xs) ys h = go (leb x most) (within-append most xs ys h)
+range-append : (most : ℕ) (xs ys : List ℕ) → in-range most ys ≡ ys → in-range most (xs ++ ys) ≡ in-range most xs ++ ys
+unfolding in-range
+range-append most [] ys h = h
+range-append most (x ∷ xs) ys h = go (leb x most) (range-append most xs ys h)
   where
     go :
-        (b : Bool) → within most (xs ++ ys) ≡ within most xs ++ ys →
-        cond b (x ∷ (xs ++ ys)) (within most (xs ++ ys)) ≡ cond b (x ∷ xs) (within most xs) ++ ys
+        (b : Bool) → in-range most (xs ++ ys) ≡ in-range most xs ++ ys →
+        cond b (x ∷ (xs ++ ys)) (in-range most (xs ++ ys)) ≡ cond b (x ∷ xs) (in-range most xs) ++ ys
     go true e = refl
     go false e = e
 
 -- what is listed serves every range, and every shorter table
 pub listing-is :
     (F sizes : List ℕ) (dense : ℕ) → sizes ++ filled-sizes F dense ≡ filled-sizes F (length F) → dense ≡ gapless F → Listing F sizes dense
-unfolding within
+unfolding in-range
 listing-is F sizes dense e d =
     record {
       ranges = λ n l. ⊎-elim (λ low. narrow n low) (λ high. wide n l (omega arith)) (below-or-not n dense);
@@ -189,22 +189,22 @@ listing-is F sizes dense e d =
     fits : dense ≤ length F
     fits = rw d (gapless-le F)
 
-    wide : (n : ℕ) → n ≤ length F → dense ≤ n → ListsRange F (within n sizes) dense n
+    wide : (n : ℕ) → n ≤ length F → dense ≤ n → ListsRange F (in-range n sizes) dense n
     wide n l m =
         let least : min n dense ≡ dense = omega arith in
-        let kept : within n ys ≡ ys = within-all n ys (λ k i. omega (arith, filled-inside F dense k i)) in
-        rw least (sym (within-append n sizes ys kept) ∙ ap (within n) e ∙ within-filled F n (length F) l)
+        let kept : in-range n ys ≡ ys = range-all n ys (λ k i. omega (arith, filled-inside F dense k i)) in
+        rw least (sym (range-append n sizes ys kept) ∙ ap (in-range n) e ∙ range-filled F n (length F) l)
 
-    none : within dense sizes ≡ []
-    none = empty (within dense sizes) (omega (arith, length-append (within dense sizes) ys, ap length (rw least at (wide dense fits (le-refl dense)))))
+    none : in-range dense sizes ≡ []
+    none = empty (in-range dense sizes) (omega (arith, length-append (in-range dense sizes) ys, ap length (rw least at (wide dense fits (le-refl dense)))))
       where
         least : min dense dense ≡ dense
         least = omega arith
 
-    narrow : (n : ℕ) → n < dense → ListsRange F (within n sizes) dense n
+    narrow : (n : ℕ) → n < dense → ListsRange F (in-range n sizes) dense n
     narrow n m =
         let least : min n dense ≡ n = omega arith in
-        let gone : within n sizes ≡ [] = sym (within-within n dense sizes (omega arith)) ∙ ap (within n) none in
+        let gone : in-range n sizes ≡ [] = sym (range-of-range n dense sizes (omega arith)) ∙ ap (in-range n) none in
         rw (least, gone)
 
 pub listing-take : (F sizes : List ℕ) (dense own : ℕ) → own ≤ length F → Listing F sizes dense → Listing (take own F) sizes dense
@@ -213,7 +213,7 @@ listing-take F sizes dense own o h =
     record {
       ranges = λ n l.
           let fits : n ≤ own = omega (arith, length-take own F, l) in
-          ap (λ (ys : List ℕ). within n sizes ++ ys) (sym (agree (min n dense) (omega arith))) ∙ h .ranges n (omega arith) ∙ agree n fits;
+          ap (λ (ys : List ℕ). in-range n sizes ++ ys) (sym (agree (min n dense) (omega arith))) ∙ h .ranges n (omega arith) ∙ agree n fits;
       no-gap = record { filled = λ i m l. rw (same i (omega (arith, length-take own F))) (h .no-gap .filled i m (omega (arith, length-take own F, l))) };
     }
   where
@@ -226,20 +226,20 @@ listing-take F sizes dense own o h =
 -- The list from `first` on serves every range up to `limit`.
 pub record ListedFrom (F sizes : List ℕ) (dense limit first : ℕ) : Type 0 where
   pub inside : first ≤ length sizes
-  pub ranges : (n : ℕ) → n ≤ limit → ListsRange F (within n (drop first sizes)) dense n
+  pub ranges : (n : ℕ) → n ≤ limit → ListsRange F (in-range n (drop first sizes)) dense n
 
 pub listed-from-start : (F sizes : List ℕ) (dense limit : ℕ) → limit ≤ length F → Listing F sizes dense → ListedFrom F sizes dense limit 0
 listed-from-start F sizes dense limit l h = record { inside = omega arith; ranges = λ n m. h .ranges n (le-trans m l) }
 
 -- without the sizes beyond a narrower range it is that range's list, and serves every range up to it
 pub listed-from-turn :
-    (F sizes : List ℕ) (dense limit first most next less : ℕ) → most ≤ limit → less ≤ most → drop next sizes ≡ within most (drop first sizes) → next ≤ length sizes →
+    (F sizes : List ℕ) (dense limit first most next less : ℕ) → most ≤ limit → less ≤ most → drop next sizes ≡ in-range most (drop first sizes) → next ≤ length sizes →
     ListedFrom F sizes dense limit first → ListsRange F (drop next sizes) dense most × ListedFrom F sizes dense less next
 listed-from-turn F sizes dense limit first most next less l m e i h = (
   rw e (h .ranges most l),
   record {
     inside = i;
-    ranges = λ n k. rw (e, within-within n most (drop first sizes) (le-trans k m)) (h .ranges n (le-trans (le-trans k m) l));
+    ranges = λ n k. rw (e, range-of-range n most (drop first sizes) (le-trans k m)) (h .ranges n (le-trans (le-trans k m) l));
   },
 )
 

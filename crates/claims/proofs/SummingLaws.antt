@@ -16,11 +16,11 @@ use Rattle.model.proofs.SumLaws.{sum-ext, sum-last, total-append}
 use Rattle.model.proofs.Month.{claim-sum-fits}
 use Rattle.model.proofs.FilledLaws.{filled-total, filled-sum-is, filled-inside, filled-count-is, filled-all}
 use Rattle.claims.specs.Values.{from-top, Parts}
-use Rattle.claims.specs.Listing.{product, SizesIn, NoGap, ListsRange}
+use Rattle.claims.specs.Listing.{sum-term, SizesIn, NoGap, ListsRange}
 
 -- a weight and a value read one place before their size
 pub product-read :
-    (F after : List ℕ) (x weight value : ℕ) → 0 < x → weight ≡ getD F (x - 1) 0 → value ≡ getD after (x - 1) 0 → weight * value ≡ product F after x
+    (F after : List ℕ) (x weight value : ℕ) → 0 < x → weight ≡ getD F (x - 1) 0 → value ≡ getD after (x - 1) 0 → weight * value ≡ sum-term F after x
 unfolding nth
 product-read F after zero weight value l ew ev = absurd (omega arith)
 product-read F after (suc x) weight value l ew ev = let here : suc x - 1 ≡ x = omega arith in rw (ew, ev, here)
@@ -67,7 +67,7 @@ down-summing-end f most so-far products (suc x) l h = absurd (omega arith)
 -- The filled sizes of a range in two parts: those listed, and all of the sizes 1 to `low`.
 pub record Parted (F after sizes : List ℕ) (low : ℕ) : Type 0 where
   pub count : length sizes + low ≡ filled-count F (length after + 1)
-  pub sums : total (map (product F after) sizes) + sum low (product F after) ≡ sum (min (length after) (length F)) (product F after)
+  pub sums : total (map (sum-term F after) sizes) + sum low (sum-term F after) ≡ sum (min (length after) (length F)) (sum-term F after)
 
 pub parted :
     (F after sizes : List ℕ) (dense low : ℕ) → ListsRange F sizes dense (min (length after) (length F)) → NoGap F dense →
@@ -87,7 +87,7 @@ parted F after sizes dense low e h el =
     n = min (length after) (length F)
 
     f : ℕ → ℕ
-    f = product F after
+    f = sum-term F after
 
     less : length after + 1 - 1 ≡ length after
     less = omega arith
@@ -113,10 +113,10 @@ sizes-in F sizes dense n e =
 -- The sum over the range, of values from the level that many places hold down to 1, is the claim sum from the large end.
 pub whole-sum :
     (F after : List ℕ) →
-    sum (min (length after) (length F)) (product F after) ≡ filled-sum F (from-top (length after) after) (length after + 1)
+    sum (min (length after) (length F)) (sum-term F after) ≡ filled-sum F (from-top (length after) after) (length after + 1)
 unfolding claim-sum nth
 whole-sum F after =
-    sum-ext (min m (length F)) (product F after) (λ x. nth F x * from-top m after (m + 1 - x)) (λ i l. same i (omega arith))
+    sum-ext (min m (length F)) (sum-term F after) (λ x. nth F x * from-top m after (m + 1 - x)) (λ i l. same i (omega arith))
     ∙ ap (λ (k : ℕ). sum (min k (length F)) (λ x. nth F x * from-top m after (m + 1 - x))) less
     ∙ sym (filled-sum-is F (from-top m after) (m + 1))
   where
@@ -130,7 +130,7 @@ whole-sum F after =
     same i l = let place : i ≡ m - (m + 1 - suc i) = omega arith in ap (λ (k : ℕ). getD F i 0 * getD after k 0) place
 
 pub whole-fits :
-    (F after : List ℕ) → total F ≤ S → Parts after → sum (min (length after) (length F)) (product F after) ≤ S * S
+    (F after : List ℕ) → total F ≤ S → Parts after → sum (min (length after) (length F)) (sum-term F after) ≤ S * S
 whole-fits F after hF hV =
     rw (whole-sum F after, filled-sum-is F (from-top (length after) after) (length after + 1))
     (claim-sum-fits F (from-top (length after) after) hF (λ s. hV .each _) (length after + 1))

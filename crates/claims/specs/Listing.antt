@@ -9,13 +9,13 @@ use Rattle.model.specs.Plan.{nth}
 use Rattle.model.specs.FilledSizes.{filled-sizes}
 
 -- the product that a claim of size x adds, where the value that it leads to is the x-th
-abbrev pub product : List ℕ → List ℕ → ℕ → ℕ
-product severity after x = nth severity x * nth after x
+abbrev pub sum-term : List ℕ → List ℕ → ℕ → ℕ
+sum-term severity after x = nth severity x * nth after x
 
 -- a list without the numbers at its front that are above a bound
-unfoldable pub within : ℕ → List ℕ → List ℕ
-within most [] = []
-within most (x ∷ xs) = cond (leb x most) (x ∷ xs) (within most xs)
+unfoldable pub in-range : ℕ → List ℕ → List ℕ
+in-range most [] = []
+in-range most (x ∷ xs) = cond (leb x most) (x ∷ xs) (in-range most xs)
 
 -- how many sizes are filled from size 1 on before the first empty one
 unfoldable pub gapless : List ℕ → ℕ
@@ -36,5 +36,5 @@ ListsRange severity sizes dense n = sizes ++ filled-sizes severity (min n dense)
 
 -- What a question lists of its table: for each range, the list without the sizes beyond it has the filled sizes. Of the sizes 1 to `dense` none is empty.
 pub record Listing (severity sizes : List ℕ) (dense : ℕ) : Type 0 where
-  pub ranges : (n : ℕ) → n ≤ length severity → ListsRange severity (within n sizes) dense n
+  pub ranges : (n : ℕ) → n ≤ length severity → ListsRange severity (in-range n sizes) dense n
   pub no-gap : NoGap severity dense

@@ -5,7 +5,7 @@ ghost use Prim.Native.Nat.{_≤_};
 ghost use lib.ListN.{length, take, drop};
 ghost use Rattle.model.specs.Limits.{max-sizes};
 ghost use Rattle.model.specs.FilledSizes.{filled-sizes};
-ghost use Rattle.claims.specs.Listing.{gapless, within, Listing};
+ghost use Rattle.claims.specs.Listing.{gapless, in-range, Listing};
 use model::limits;
 
 // How many sizes are filled from size 1 on before the first empty one.
@@ -66,7 +66,7 @@ pub fn list_sizes(severity: &[u32]) -> FilledSizes
 // From where on, at `from` or later, the listed sizes are at most `most`.
 pub fn first_within(sizes: &[usize], from: usize, most: usize) -> usize
     requires { ⌜ from ≤ length (now sizes) ⌝ }
-    ensures within { λ r. ⌜ drop r (now (sizes .entry)) ≡ within most (drop from (now (sizes .entry))) ⌝ }
+    ensures within { λ r. ⌜ drop r (now (sizes .entry)) ≡ in-range most (drop from (now (sizes .entry))) ⌝ }
     ensures inside { λ r. ⌜ r ≤ length (now (sizes .entry)) ⌝ }
 {
     let mut k = from;

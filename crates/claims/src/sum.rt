@@ -6,7 +6,7 @@ ghost use lib.ListN.{length};
 ghost use Rattle.model.specs.Scale.{S};
 ghost use Rattle.model.specs.Sums.{sum, total};
 ghost use Rattle.model.specs.FilledSizes.{filled-sum, filled-count};
-ghost use Rattle.claims.specs.Listing.{product, SizesIn, NoGap, ListsRange};
+ghost use Rattle.claims.specs.Listing.{sum-term, SizesIn, NoGap, ListsRange};
 ghost use Rattle.claims.specs.Values.{from-top, Parts};
 use model::WIDE_SCALE;
 use numbers::lesser;
@@ -28,8 +28,8 @@ struct ProductSum {
 // Over the listed sizes, in their order.
 fn listed_sum(severity: &[u32], sizes: &[usize], after: &[u32]) -> ProductSum
     requires { ⌜ SizesIn (min (length (now after)) (length (now severity))) (now sizes) ⌝ }
-    requires { ⌜ total (map (product (now severity) (now after)) (now sizes)) ≤ S * S ⌝ }
-    ensures sum { λ r. ⌜ r .sum ≡ total (map (product (now (severity .entry)) (now (after .entry))) (now (sizes .entry))) ⌝ }
+    requires { ⌜ total (map (sum-term (now severity) (now after)) (now sizes)) ≤ S * S ⌝ }
+    ensures sum { λ r. ⌜ r .sum ≡ total (map (sum-term (now (severity .entry)) (now (after .entry))) (now (sizes .entry))) ⌝ }
     ensures products { λ r. ⌜ r .products ≡ length (now (sizes .entry)) ⌝ }
 {
     let mut sum: u64 = 0;
@@ -45,8 +45,8 @@ fn listed_sum(severity: &[u32], sizes: &[usize], after: &[u32]) -> ProductSum
 // Over the sizes 1 to `most`, from the largest down.
 fn dense_sum(severity: &[u32], after: &[u32], most: usize) -> ProductSum
     requires { ⌜ most ≤ min (length (now after)) (length (now severity)) ⌝ }
-    requires { ⌜ sum most (product (now severity) (now after)) ≤ S * S ⌝ }
-    ensures sum { λ r. ⌜ r .sum ≡ sum most (product (now (severity .entry)) (now (after .entry))) ⌝ }
+    requires { ⌜ sum most (sum-term (now severity) (now after)) ≤ S * S ⌝ }
+    ensures sum { λ r. ⌜ r .sum ≡ sum most (sum-term (now (severity .entry)) (now (after .entry))) ⌝ }
     ensures products { λ r. ⌜ r .products ≡ most ⌝ }
 {
     let mut sum: u64 = 0;

@@ -1,7 +1,4 @@
--- The laws of plan bytes. Theorems has what the reader and other crates cite.
-pub mod Fields
-pub mod PlanBits
-pub mod RefusalLaws
+-- The laws of reading and writing. Theorems has what the reader and other crates cite.
 pub mod Answered
 pub mod PlanRead
 pub mod LongInput

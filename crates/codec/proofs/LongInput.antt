@@ -1,19 +1,21 @@
 -- An input longer than the longest plan is refused as its head is, or else with 5, and so is any part of it that is still too long: a program
 -- need not read on.
-use Prim.Native.Nat.{ℕ, zero, suc, _<_, _≤_}
+use Prim.Native.Nat.{ℕ, zero, suc, _+_, _*_, _<_, _≤_}
 use mathlib.Core.Path.{_≡_, refl, sym, ap, _∙_}
 use mathlib.Core.Bool.{Bool, true, false}
-use mathlib.Core.List.{List, [], _∷_, flatMap}
+use mathlib.Core.List.{List, [], _∷_, _++_, append-assoc, flatMap}
 use native.Mathlib.Omega.{arith}
 use borrow.Author.Tests.{ltb-true, ltb-false}
 use lib.Dec.{ltb}
-use lib.ListN.{length, take}
-use lib.Seq.{take-all, length-take-le}
-use Rattle.model.specs.Format.{bits, bits-of, head-of}
+use lib.ListN.{length, take, drop, length-take, length-drop, take-append-drop}
+use lib.Seq.{take-all, length-take-le, take-append-le, drop-append-le}
+use Rattle.model.specs.Format.{months-width, opening-width, sizes-start, sizes-width, head-bits, head-bytes, bits, number, bits-of, head-of}
 use Rattle.model.specs.Refusal.{first, head-checks, read-refusal}
 use Rattle.model.specs.Figures.{longest-plan}
-use Rattle.model.proofs.Rooms.{byte-length-fits, longest-between}
-use Rattle.codec.proofs.RefusalLaws.{read-head, read-length}
+use Rattle.model.proofs.Rooms.{byte-length-fits, longest-between, figures}
+use Rattle.codec.specs.Input.{input-room}
+use Rattle.plan_bits.proofs.PlanBits.{length-bits-of}
+use Rattle.plan_bits.proofs.RefusalLaws.{read-head, read-length}
 
 -- the refusal of a head, or 5
 or-length : ℕ → ℕ
@@ -33,16 +35,31 @@ unfolding or-length
 not-none zero e = omega (arith, e)
 not-none (suc n) e = omega (arith, e)
 
--- the head lies in the first three bytes
-same-head : (bytes : List ℕ) (most : ℕ) → 3 ≤ length bytes → 3 ≤ most → head-of (take most bytes) ≡ head-of bytes
-unfolding head-of bits-of bits flatMap
-same-head [] most h m = absurd (omega arith)
-same-head (a ∷ []) most h m = absurd (omega arith)
-same-head (a ∷ b ∷ []) most h m = absurd (omega arith)
-same-head (a ∷ b ∷ c ∷ rest) zero h m = absurd (omega arith)
-same-head (a ∷ b ∷ c ∷ rest) (suc zero) h m = absurd (omega arith)
-same-head (a ∷ b ∷ c ∷ rest) (suc (suc zero)) h m = absurd (omega arith)
-same-head (a ∷ b ∷ c ∷ rest) (suc (suc (suc most))) h m = refl
+-- what lies within the first of two lists has no part of the second
+within-first : (o w : ℕ) (xs ys : List ℕ) → o + w ≤ length xs → take w (drop o (xs ++ ys)) ≡ take w (drop o xs)
+within-first o w xs ys l = rw (drop-append-le o xs ys (omega arith)) (take-append-le w (drop o xs) ys (rw length-drop (omega arith)))
+
+bits-both : (xs ys : List ℕ) → bits-of (xs ++ ys) ≡ bits-of xs ++ bits-of ys
+unfolding bits-of flatMap
+bits-both [] ys = refl
+bits-both (x ∷ xs) ys = ap (λ (rest : List ℕ). bits 8 x ++ rest) (bits-both xs ys) ∙ sym (append-assoc (bits 8 x) (bits-of xs) (bits-of ys))
+
+-- so the head is that of its own bytes
+head-first : (xs ys : List ℕ) → head-bytes ≤ length xs → head-of (xs ++ ys) ≡ head-of xs
+unfolding head-of head-bits
+head-first xs ys whole =
+    let long : length (bits-of xs) ≡ 8 * length xs = length-bits-of xs in
+    rw (bits-both xs ys)
+    (λ i.
+    record {
+      months = number (within-first 0 months-width (bits-of xs) (bits-of ys) (omega (arith, long)) i);
+      opening = number (within-first months-width opening-width (bits-of xs) (bits-of ys) (omega (arith, long)) i);
+      sizes = number (within-first sizes-start sizes-width (bits-of xs) (bits-of ys) (omega (arith, long)) i);
+    })
+
+same-head : (bytes : List ℕ) (most : ℕ) → head-bytes ≤ length bytes → head-bytes ≤ most → head-of (take most bytes) ≡ head-of bytes
+same-head bytes most h m =
+    sym (head-first (take most bytes) (drop most bytes) (rw length-take (omega arith))) ∙ ap head-of (take-append-drop most bytes)
 
 -- What is printed of bytes, and of a refused plan by its number alone, is for a longer input what it is for the first part.
 pub first-part :
@@ -62,3 +79,10 @@ first-part printed refused room by-number bytes most enough = go (ltb most (leng
         by-number _ (λ z. not-none _ (sym part ∙ z))
         ∙ ap refused same
         ∙ sym (by-number _ (λ z. not-none _ (sym all ∙ z)))
+
+-- A program reads a part of its input, and what is printed of that part is what is printed of all.
+pub reads-enough :
+    (printed : List ℕ → List ℕ) (refused : ℕ → List ℕ) (room : ℕ)
+    → ((bytes : List ℕ) → (read-refusal bytes room ≡ 0 → ⊥) → printed bytes ≡ refused (read-refusal bytes room))
+    → (bytes : List ℕ) → printed (take input-room bytes) ≡ printed bytes
+reads-enough printed refused room by-number bytes = first-part printed refused room by-number bytes input-room (omega (arith, figures .plan-bytes))

@@ -11,8 +11,9 @@ use Rattle.model.specs.Refusal.{Accepted, read-refusal}
 use Rattle.codec.specs.declared.ReadAnswer.{ReadAnswer}
 use Rattle.codec.specs.declared.BytePlan.{BytePlan}
 use Rattle.codec.specs.Answers.{read-answer, row-after, byte-plan}
-use Rattle.codec.proofs.Answered.{head-number, head-answered, filled}
-use Rattle.codec.proofs.RefusalLaws.{readable, row-is}
+use Rattle.codec.proofs.Answered.{head-number, head-answered}
+use Rattle.model.proofs.MemoryLaws.{filled}
+use Rattle.plan_bits.proofs.RefusalLaws.{readable, row-is}
 
 -- what reading leaves in the row is the plan's row, and the rest
 pub row-left : (bytes row : List ℕ) → read-refusal bytes (length row) ≡ 0 → take (row-length (head-of bytes)) (row-after bytes row) ≡ row-of bytes

@@ -12,13 +12,12 @@ use Rattle.model.specs.declared.Head.{Head}
 use Rattle.model.specs.Scale.{S}
 use Rattle.model.specs.Sums.{any}
 use Rattle.model.specs.Plan.{row-length}
-use Rattle.model.specs.Format.{bits, number, fields, head-bits, plan-bits, bit-length, byte-length, filled-bits, bytes-of}
-use Rattle.model.specs.Format.{bits-of, head-of, row-of, fill-of}
+use Rattle.model.specs.Format.{months-width, opening-width, sizes-start, sizes-width, number-width, bits, number, fields, head-bits, plan-bits, bit-length, byte-length, filled-bits, bytes-of, bits-of, head-of, row-of, fill-of}
 use Rattle.model.specs.Refusal.{first, head-checks, plan-refusal, Accepted}
 use Rattle.model.proofs.Facts.{Facts, facts, accepted-head}
-use Rattle.codec.proofs.Fields.{Bits, after-first, length-bits, number-bits, bits-field, bits-drop, flat-fields, fields-flat, length-fields}
-use Rattle.codec.proofs.PlanBits.{length-plan, length-filled, bits-filled, length-bits-of, bits-bits-of, bits-fill-of}
-use Rattle.codec.proofs.RefusalLaws.{Readable, row-inside}
+use Rattle.plan_bits.proofs.Fields.{Bits, after-first, length-bits, number-bits, bits-field, bits-drop, flat-fields, fields-flat, length-fields}
+use Rattle.plan_bits.proofs.PlanBits.{length-plan, length-filled, bits-filled, length-bits-of, bits-bits-of, bits-fill-of}
+use Rattle.plan_bits.proofs.RefusalLaws.{Readable, row-inside}
 
 -- the number that a field of its width holds
 field-back : (w x : ℕ) (rest : List ℕ) → x < 2 ^ w → number (take w (bits w x ++ rest)) ≡ x
@@ -52,46 +51,46 @@ module _ (h : Head) (row : List ℕ) (ok : Accepted h row) where
       ∙ take-all (8 * byte-length h) (filled-bits h row) (le-of-eq whole)
 
   after-opening : List ℕ
-  after-opening = bits 9 (h .sizes) ++ (flatMap (bits 31) row ++ zeros)
+  after-opening = bits sizes-width (h .sizes) ++ (flatMap (bits number-width) row ++ zeros)
 
   after-months : List ℕ
-  after-months = bits 8 (h .opening) ++ after-opening
+  after-months = bits opening-width (h .opening) ++ after-opening
 
-  filled-fields : filled-bits h row ≡ bits 7 (h .months) ++ after-months
+  filled-fields : filled-bits h row ≡ bits months-width (h .months) ++ after-months
   unfolding filled-bits plan-bits after-months after-opening zeros
   filled-fields = simp append-assoc
 
-  written-fields : bits-of (bytes-of h row) ≡ bits 7 (h .months) ++ after-months
+  written-fields : bits-of (bytes-of h row) ≡ bits months-width (h .months) ++ after-months
   written-fields = bits-back ∙ filled-fields
 
-  drop-months : drop 7 (bits-of (bytes-of h row)) ≡ after-months
-  drop-months = ap (drop 7) written-fields ∙ drop-at (bits 7 (h .months)) after-months 7 (length-bits 7 _)
+  drop-months : drop months-width (bits-of (bytes-of h row)) ≡ after-months
+  drop-months = ap (drop months-width) written-fields ∙ drop-at (bits months-width (h .months)) after-months months-width (length-bits months-width _)
 
-  drop-opening : drop 15 (bits-of (bytes-of h row)) ≡ after-opening
+  drop-opening : drop sizes-start (bits-of (bytes-of h row)) ≡ after-opening
   unfolding after-months
   drop-opening =
-      sym (drop-drop 8 7 (bits-of (bytes-of h row)))
-      ∙ ap (drop 8) drop-months
-      ∙ drop-at (bits 8 (h .opening)) after-opening 8 (length-bits 8 _)
+      sym (drop-drop opening-width months-width (bits-of (bytes-of h row)))
+      ∙ ap (drop opening-width) drop-months
+      ∙ drop-at (bits opening-width (h .opening)) after-opening opening-width (length-bits opening-width _)
 
-  drop-head : drop 24 (bits-of (bytes-of h row)) ≡ flatMap (bits 31) row ++ zeros
-  unfolding after-opening
+  drop-head : drop head-bits (bits-of (bytes-of h row)) ≡ flatMap (bits number-width) row ++ zeros
+  unfolding after-opening head-bits
   drop-head =
-      sym (drop-drop 9 15 (bits-of (bytes-of h row)))
-      ∙ ap (drop 9) drop-opening
-      ∙ drop-at (bits 9 (h .sizes)) (flatMap (bits 31) row ++ zeros) 9 (length-bits 9 _)
+      sym (drop-drop sizes-width sizes-start (bits-of (bytes-of h row)))
+      ∙ ap (drop sizes-width) drop-opening
+      ∙ drop-at (bits sizes-width (h .sizes)) (flatMap (bits number-width) row ++ zeros) sizes-width (length-bits sizes-width _)
 
   -- what is written reads back the same head and row
-  months-back : number (take 7 (bits-of (bytes-of h row))) ≡ h .months
-  months-back = ap (λ l. number (take 7 l)) written-fields ∙ field-back 7 _ _ (omega (arith, known .head .months-fit))
+  months-back : number (take months-width (bits-of (bytes-of h row))) ≡ h .months
+  months-back = ap (λ l. number (take months-width l)) written-fields ∙ field-back months-width _ _ (omega (arith, known .head .months-fit))
 
-  opening-back : number (take 8 (drop 7 (bits-of (bytes-of h row)))) ≡ h .opening
+  opening-back : number (take opening-width (drop months-width (bits-of (bytes-of h row)))) ≡ h .opening
   unfolding after-months
-  opening-back = ap (λ l. number (take 8 l)) drop-months ∙ field-back 8 _ _ (omega (arith, known .head .opening-fits))
+  opening-back = ap (λ l. number (take opening-width l)) drop-months ∙ field-back opening-width _ _ (omega (arith, known .head .opening-fits))
 
-  sizes-back : number (take 9 (drop 15 (bits-of (bytes-of h row)))) ≡ h .sizes
+  sizes-back : number (take sizes-width (drop sizes-start (bits-of (bytes-of h row)))) ≡ h .sizes
   unfolding after-opening
-  sizes-back = ap (λ l. number (take 9 l)) drop-opening ∙ field-back 9 _ _ (omega (arith, known .head .sizes-fit))
+  sizes-back = ap (λ l. number (take sizes-width l)) drop-opening ∙ field-back sizes-width _ _ (omega (arith, known .head .sizes-fit))
 
   pub head-back : head-of (bytes-of h row) ≡ h
   unfolding head-of
@@ -100,8 +99,8 @@ module _ (h : Head) (row : List ℕ) (ok : Accepted h row) where
   pub row-back : row-of (bytes-of h row) ≡ row
   unfolding row-of head-bits S
   row-back =
-      ap₂ (fields 31) (ap row-length head-back ∙ sym (known .row-is)) drop-head
-      ∙ fields-flat 31 row zeros (λ i. lt-of-le-of-lt (known .numbers-fit i) (lit< tt))
+      ap₂ (fields number-width) (ap row-length head-back ∙ sym (known .row-is)) drop-head
+      ∙ fields-flat number-width row zeros (λ i. lt-of-le-of-lt (known .numbers-fit i) (lit< tt))
 
   pub length-back : length (bytes-of h row) ≡ byte-length h
   unfolding bytes-of
@@ -132,11 +131,11 @@ module _ (bytes : List ℕ) (room : ℕ) (are-bytes : (i : ℕ) → getD bytes i
   abbrev count : ℕ
   count = row-length (head-of bytes)
 
-  inside : head-bits + 31 * count ≤ length all
+  inside : head-bits + number-width * count ≤ length all
   inside = rw length-bits-of (row-inside bytes room known)
 
   -- a field of the head
-  field-of : (o w : ℕ) → o + w ≤ 24 → bits w (number (take w (drop o all))) ≡ take w (drop o all)
+  field-of : (o w : ℕ) → o + w ≤ head-bits → bits w (number (take w (drop o all))) ≡ take w (drop o all)
   unfolding head-bits
   field-of o w early = bits-field w (drop o all) (rw length-drop (omega (arith, inside))) (bits-drop o all (bits-bits-of bytes))
 
@@ -144,10 +143,12 @@ module _ (bytes : List ℕ) (room : ℕ) (are-bytes : (i : ℕ) → getD bytes i
   unfolding plan-bits head-of row-of bit-length head-bits
   plan-bits-back =
       ap₂ _++_
-      (ap₂ _++_ (ap₂ _++_ (field-of 0 7 (omega arith)) (field-of 7 8 (omega arith)) ∙ sym (take-add 7 8 all)) (field-of 15 9 (omega arith))
-      ∙ sym (take-add 15 9 all))
-      (flat-fields 31 count (drop head-bits all) (rw length-drop (omega (arith, inside))) (bits-drop head-bits all (bits-bits-of bytes)))
-      ∙ sym (take-add head-bits (31 * count) all)
+      (ap₂ _++_
+      (ap₂ _++_ (field-of 0 months-width (omega arith)) (field-of months-width opening-width (omega arith)) ∙ sym (take-add months-width opening-width all))
+      (field-of sizes-start sizes-width (omega arith))
+      ∙ sym (take-add sizes-start sizes-width all))
+      (flat-fields number-width count (drop head-bits all) (rw length-drop (omega (arith, inside))) (bits-drop head-bits all (bits-bits-of bytes)))
+      ∙ sym (take-add head-bits (number-width * count) all)
 
   fill-length : length (fill-of bytes) ≡ 8 * byte-length (head-of bytes) - bit-length (head-of bytes)
   unfolding fill-of

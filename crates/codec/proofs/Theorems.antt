@@ -11,8 +11,9 @@ use Rattle.model.specs.Plan.{row-length}
 use Rattle.model.specs.Format.{byte-length, bytes-of, head-of, row-of}
 use Rattle.model.specs.Refusal.{Accepted, read-refusal, write-refusal}
 use Rattle.codec.specs.Answers.{read-answer, row-after, write-answer, bytes-after}
-use Rattle.codec.proofs.RefusalLaws.{Readable, readable, accepts, written, write-room}
-use Rattle.codec.proofs.Answered.{read-as, written-as, head-answered, head-number, length-answered, length-number, filled}
+use Rattle.plan_bits.proofs.RefusalLaws.{Readable, readable, accepts, written, write-room}
+use Rattle.codec.proofs.Answered.{read-as, written-as, head-answered, head-number, length-answered, length-number}
+use Rattle.model.proofs.MemoryLaws.{filled}
 use Rattle.codec.proofs.PlanRead.{row-left}
 use Rattle.codec.proofs.RoundTrip.{length-back, head-back, row-back, readable-back, bytes-back}
 

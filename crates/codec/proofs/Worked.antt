@@ -9,12 +9,12 @@ use Rattle.model.specs.declared.Head.{Head}
 use Rattle.model.specs.Scale.{S}
 use Rattle.model.specs.Sums.{total, any}
 use Rattle.model.specs.Plan.{plan-of, row-length}
-use Rattle.model.specs.Format.{bits, number, fields, head-bits, plan-bits, bit-length, byte-length, filled-bits, bytes-of}
-use Rattle.model.specs.Format.{bits-of, head-of, row-of, fill-of}
+use Rattle.model.specs.Format.{bits, number, fields, head-bits, plan-bits, bit-length, byte-length, filled-bits, bytes-of, bits-of, head-of, row-of, fill-of}
 use Rattle.model.specs.Refusal.{first, head-checks, number-checks, tail-survivable, Accepted, plan-refusal, read-refusal, write-refusal}
 use Rattle.codec.specs.Answers.{read-answer, row-after, write-answer, bytes-after}
-use Rattle.codec.proofs.RefusalLaws.{Readable, readable, accepts, row-is, write-room}
-use Rattle.codec.proofs.Answered.{read-as, written-as, head-answered, length-answered, filled}
+use Rattle.plan_bits.proofs.RefusalLaws.{Readable, readable, accepts, row-is, write-room}
+use Rattle.codec.proofs.Answered.{read-as, written-as, head-answered, length-answered}
+use Rattle.model.proofs.MemoryLaws.{filled}
 
 -- Bytes are read, with 0, as a head and a row, and these are written, with 0, as the bytes, whatever memory is lent that is long enough.
 pub record StandFor (bytes : List ℕ) (h : Head) (row : List ℕ) : Type 0 where

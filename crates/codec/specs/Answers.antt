@@ -1,10 +1,10 @@
 -- What reading and writing answer and leave in lent memory, for every input: "A refusal gives its number, zero in each number it would have
--- answered, and changes no lent memory." "Reading and writing fill the needed part. What lies past it is untouched in every case."
+-- answered, and changes no lent memory."
 use Prim.Native.Nat.{ℕ}
 use mathlib.Core.Bool.{cond}
-use mathlib.Core.List.{List, _++_}
+use mathlib.Core.List.{List}
 use lib.Dec.{eqb}
-use lib.ListN.{length, drop, replicate}
+use lib.ListN.{length, replicate}
 use Rattle.model.specs.declared.Head.{Head}
 use Rattle.codec.specs.declared.ReadAnswer.{ReadAnswer}
 use Rattle.codec.specs.declared.BytePlan.{BytePlan}
@@ -12,6 +12,7 @@ use Rattle.codec.specs.declared.WriteAnswer.{WriteAnswer}
 use Rattle.model.specs.Limits.{row-room}
 use Rattle.model.specs.Plan.{row-length}
 use Rattle.model.specs.Format.{head-of, row-of, byte-length, bytes-of}
+use Rattle.model.specs.Memory.{filled-after}
 use Rattle.model.specs.Refusal.{read-refusal, write-refusal}
 
 unfoldable pub no-head : Head
@@ -24,10 +25,6 @@ head-answer refusal h = cond (eqb refusal 0) (record { refusal = 0; head = h }) 
 -- a call that answers a length
 unfoldable pub length-answer : ℕ → ℕ → WriteAnswer
 length-answer refusal n = cond (eqb refusal 0) (record { refusal = 0; length = n }) (record { refusal = refusal; length = 0 })
-
--- lent memory after a call that fills the needed part of it
-unfoldable pub filled-after : ℕ → ℕ → List ℕ → List ℕ → List ℕ
-filled-after refusal needed new lent = cond (eqb refusal 0) (new ++ drop needed lent) lent
 
 -- the answer to reading bytes, with a lent row of the given length, and the lent row after it
 abbrev pub read-answer : List ℕ → ℕ → ReadAnswer

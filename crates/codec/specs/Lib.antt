@@ -1,2 +1,3 @@
+-- What the contracts and the laws of the calls cite.
 pub mod Answers
-pub mod Rows
+pub mod Input

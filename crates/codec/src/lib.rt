@@ -1,12 +1,10 @@
 // Plan bytes: reading them into a lent row, and writing a head and a row into lent bytes.
-mod bits;
-mod format;
-mod reading;
-mod writing;
-
 use model::Head;
 use model::limits;
-use plan::lengths::blank_row;
+use plan_bits::format;
+use plan_bits::reading;
+use plan_bits::writing;
+use rooms::blank_row;
 ghost use mathlib.Core.Path.{_≡_};
 ghost use lib.ListN.{length};
 ghost use Rattle.codec.specs.Answers.{read-answer, row-after, byte-plan, write-answer, bytes-after};

@@ -1,22 +1,23 @@
--- Doubles in 0 to 1: what the tests say of such a double, and that 1 less such a double and the product of two, each rounded once, are such doubles.
+-- Doubles in 0 to 2^k: what the tests say of such a double. In 0 to 1: that 1 less such a double and the product of two, each rounded once, are such doubles.
 use Prim.Native.Nat.{ℕ, _+_, _*_, _-_, _^_, _≤_, _<_, zero-le}
 use mathlib.Core.Path.{_≡_, refl, sym, ap, _∙_, subst}
 use mathlib.Core.Logic.{_⊎_, inl, inr, ⊎-elim}
 use mathlib.Core.Bool.{Bool, true, false, _&&_, _||_}
-use native.Mathlib.Nat.{zero-mul, mul-zero, zero-lt-suc, mul-pos, mul-le-mul, le-of-eq, eq-of-mul-eq-mul-right}
+use native.Mathlib.Nat.{zero-mul, mul-zero, one-mul, zero-lt-suc, mul-pos, mul-le-mul, mul-le-mul-right, mul-right-comm, le-trans, le-of-eq, le-of-mul-le-mul-right, eq-of-mul-eq-mul-right}
 use native.Mathlib.Omega.{arith}
 use borrow.Author.Tests.{le-ltb, ltb-false}
 use lib.IntN.{ℤ, pos}
 use lib.Dec.{T, ltb, eqb, eqb→eq, ltb→lt, lt→ltb, lit≤}
 use lib.Pow.{pow-pos}
-use lib.Ieee.{Float, nan, inf, fin, binary64, up, down, unlike, below, level, round, sum, neg, add, sub, mul, le, lt, eq, fits, ofBits}
-use lib.Ieee.Fits.{down-pos, and-i, and-l, and-r, round-fits}
+use lib.Ieee.{Float, nan, inf, fin, binary64, up, down, unlike, below, round, sum, neg, add, sub, mul, le, lt, eq, fits, ofBits}
+use lib.Ieee.Fits.{down-pos, eq→eqb, and-i, and-l, and-r, round-fits}
 use lib.Ieee.Bits.{is-true}
 use lib.Ieee.Exact.{HasValue, round-exact}
 use lib.Ieee.Order.{le-of-values, round-mono}
 use lib.Ieee.Positive.{num, den}
+use lib.Ieee.Scale.{finite}
 use lib.Ieee.Back.{round-whole, whole-unique}
-use Rattle.doubles.specs.Doubles.{nought, one, within}
+use Rattle.doubles.specs.Doubles.{nought, one, scale, within}
 
 -- ---- tests and what they say
 
@@ -60,7 +61,79 @@ pub literal-one : ofBits binary64 0x3ff0_0000_0000_0000 ≡ one
 unfolding ofBits
 literal-one = refl
 
+pub literal-scale : ofBits binary64 0x41d0_0000_0000_0000 ≡ scale
+unfolding ofBits
+literal-scale = refl
+
+-- ---- a double in 0 to 2^k
+
+abbrev two-to : ℕ → Float
+two-to k = fin false 1 (pos k)
+
+-- its size is at most 2^k, and a negative one is a zero
+abbrev pub UpTo : ℕ → Float → Type 0
+UpTo k nan = ⊥
+UpTo k (inf s) = ⊥
+UpTo k (fin s m e) = (m * up e ≤ 2 ^ k * down e) × (s ≡ true → m * up e ≡ 0)
+
+pub up-to : (k : ℕ) (x : Float) → T (le nought x) → T (le x (two-to k)) → UpTo k x
+unfolding le lt eq
+up-to k nan least most = absurd least
+up-to k (inf true) least most = absurd least
+up-to k (inf false) least most = absurd most
+up-to k (fin true m e) least most =
+    let size : m * up e * 1 ≡ 0 = equal-zero (0 * down e) (m * up e * 1) least in
+    (omega arith, λ _. omega arith)
+up-to k (fin false m e) least most =
+    let size : m * up e * 1 ≤ 1 * 2 ^ k * down e = less-or-equal (m * up e * 1) (1 * 2 ^ k * down e) most in
+    (omega (arith, ap (λ (p : ℕ). p * down e) (one-mul (2 ^ k))), λ n. absurd (no refl (yes n)))
+
+-- and back
+pub up-to-back : (k : ℕ) (x : Float) → UpTo k x → T (le nought x) × T (le x (two-to k))
+unfolding le lt eq
+up-to-back k nan u = absurd u
+up-to-back k (inf s) u = absurd u
+up-to-back k (fin true m e) u =
+    let same : 0 * down e ≡ m * up e * 1 = omega (arith, u .1 refl) in
+    let some : 0 < 1 * 2 ^ k * down e = mul-pos (mul-pos (zero-lt-suc 0) (pow-pos k)) (down-pos e) in (
+      and-i (eqb (0 * down e) (m * up e * 1)) (eqb (0 * down e) 0) (eq→eqb same) (eq→eqb (zero-mul (down e))),
+      or-l (below true (m * up e * 1) false (1 * 2 ^ k * down e)) _ (lt→ltb 0 (m * up e * 1 + 1 * 2 ^ k * down e) (omega arith)),
+    )
+up-to-back k (fin false m e) u = (
+  le-of-values nought (fin false m e) 0 1 (m * up e) (down e) (zero-lt-suc 0) (down-pos e) (refl, refl) (refl, refl) (omega arith),
+  le-of-values (fin false m e) (two-to k) (m * up e) (down e) (2 ^ k) 1 (down-pos e) (zero-lt-suc 0) (refl, refl)
+      (refl, ap (λ (p : ℕ). p * 1) (one-mul (2 ^ k)))
+      (omega (arith, u .0)),
+)
+
+-- by a fraction that it is
+pub up-to-value : (k : ℕ) (x : Float) (s : Bool) (a c : ℕ) → 0 < c → HasValue x s a c → a ≤ 2 ^ k * c → (s ≡ true → a ≡ 0) → UpTo k x
+up-to-value k nan s a c some v most none = absurd v
+up-to-value k (inf t) s a c some v most none = absurd v
+up-to-value k (fin t m e) s a c some v most none = (
+  le-of-mul-le-mul-right
+      (le-trans (le-of-eq (v .1)) (le-trans (mul-le-mul-right (down e) most) (le-of-eq (mul-right-comm (2 ^ k) c (down e)))))
+      some,
+  λ n.
+      eq-of-mul-eq-mul-right c some (m * up e) 0
+      (v .1 ∙ ap (λ (p : ℕ). p * down e) (none (sym (v .0) ∙ n)) ∙ zero-mul (down e) ∙ sym (zero-mul c)),
+)
+
+pub up-to-finite : (k : ℕ) (x : Float) → UpTo k x → T (finite x)
+up-to-finite k nan u = u
+up-to-finite k (inf s) u = u
+up-to-finite k (fin s m e) u = tt
+
+pub up-to-size : (k : ℕ) (x : Float) → UpTo k x → num x ≤ 2 ^ k * den x
+up-to-size k nan u = absurd u
+up-to-size k (inf s) u = absurd u
+up-to-size k (fin s m e) u = u .0
+
 -- ---- a double in 0 to 1
+
+pub within-up-to : (x : Float) → within x ≡ true → UpTo 0 x
+unfolding within
+within-up-to x h = up-to 0 x (and-l (le nought x) (le x one) (yes h)) (and-r (le nought x) (le x one) (yes h))
 
 -- its size is at most 1, and a negative one is a zero
 abbrev pub Unit : Float → Type 0
@@ -69,53 +142,23 @@ Unit (inf s) = ⊥
 Unit (fin s m e) = (m * up e ≤ down e) × (s ≡ true → m * up e ≡ 0)
 
 pub unit : (x : Float) → within x ≡ true → Unit x
-unfolding within le lt eq
-unit nan h = absurd (yes h)
-unit (inf true) h = absurd (yes h)
-unit (inf false) h = absurd (yes h)
-unit (fin true m e) h =
-    let size : m * up e * 1 ≡ 0 =
-    equal-zero (0 * down e) (m * up e * 1) (and-l (le nought (fin true m e)) (le (fin true m e) one) (yes h)) in
-    (omega arith, λ _. omega arith)
-unit (fin false m e) h =
-    let size : m * up e * 1 ≤ 1 * down e =
-    less-or-equal (m * up e * 1) (1 * down e) (and-r (le nought (fin false m e)) (le (fin false m e) one) (yes h)) in
-    (omega arith, λ n. absurd (no refl (yes n)))
+unit x h = go x (within-up-to x h)
+  where
+    go : (x : Float) → UpTo 0 x → Unit x
+    go nan u = u
+    go (inf s) u = u
+    go (fin s m e) u = (omega (arith, u .0), u .1)
 
 pub within-small : (x : Float) → within x ≡ true → num x ≤ den x
-within-small x h = go x (unit x h)
-  where
-    go : (x : Float) → Unit x → num x ≤ den x
-    go nan u = absurd u
-    go (inf s) u = absurd u
-    go (fin s m e) u = u .0
+within-small x h = omega (arith, up-to-size 0 x (within-up-to x h))
 
 -- ---- back: a zero of either sign, and a double at which the test of alpha passes
 
--- a size of 0 is in 0 to 1 …
-zero-least : (s : Bool) (a b : ℕ) → a ≡ 0 → b ≡ 0 → T (below false a s b || level false a s b)
-zero-least s a b p q =
-    subst (λ (k : ℕ). T (below false k s b || level false k s b)) (sym p)
-    (subst (λ (k : ℕ). T (below false 0 s k || level false 0 s k)) (sym q) (at s))
-  where
-    at : (s : Bool) → T (below false 0 s 0 || level false 0 s 0)
-    at true = tt
-    at false = tt
-
-zero-most : (s : Bool) (a b : ℕ) → a ≡ 0 → 0 < b → T (below s a false b)
-zero-most s a b p q = subst (λ (k : ℕ). T (below s k false b)) (sym p) (at s)
-  where
-    at : (s : Bool) → T (below s 0 false b)
-    at true = lt→ltb 0 (0 + b) (omega arith)
-    at false = lt→ltb 0 b q
-
 zero-within : (s : Bool) (m : ℕ) (e : ℤ) → m * up e ≡ 0 → within (fin s m e) ≡ true
 zero-within s m e z =
-    both-hold (fin s m e)
-    (unfold le lt eq in zero-least s (0 * down e) (m * up e * 1) (zero-mul (down e)) (omega arith))
-    (unfold le lt eq in or-l (below s (m * up e * 1) false (1 * down e)) _ (zero-most s (m * up e * 1) (1 * down e) (omega arith) (omega (arith, down-pos e))))
+    let tests = up-to-back 0 (fin s m e) (omega arith, λ _. z) in
+    both-hold (fin s m e) (tests .0) (tests .1)
 
--- … and so is what is not below 0 and is below 1
 pub within-alpha : (x : Float) → lt x nought ≡ false → lt x one ≡ true → within x ≡ true
 unfolding lt
 within-alpha nan least most = absurd (yes most)

@@ -17,7 +17,7 @@ use Rattle.doubles.specs.Doubles.{one, within}
 use Rattle.doubles.proofs.RangeLaws.{Unit, unit}
 
 -- a value's size alone
-sized : (x : Float) (s : Bool) (a c : ℕ) → HasValue x s a c → Equals x a c
+pub sized : (x : Float) (s : Bool) (a c : ℕ) → HasValue x s a c → Equals x a c
 sized nan s a c v = v
 sized (inf t) s a c v = v
 sized (fin t m e) s a c v = v .1

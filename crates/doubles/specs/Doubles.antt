@@ -7,12 +7,15 @@ use lib.Ieee.{Float, fin, le}
 use lib.Ieee.Positive.{num, den}
 use Rattle.model.specs.Scale.{S}
 
--- the doubles 0 and 1
+-- the doubles 0, 1 and 2^30
 abbrev pub nought : Float
 nought = fin false 0 (pos 0)
 
 abbrev pub one : Float
 one = fin false 1 (pos 0)
+
+abbrev pub scale : Float
+scale = fin false 1 (pos 30)
 
 -- whether a double lies in 0 to 1. "Minus zero counts as zero", as the comparisons of IEEE 754 have it.
 unfoldable pub within : Float → Bool

@@ -1,9 +1,11 @@
 // The doubles of a rule sheet: from any bits, tested, and as parts of S, by their bits.
 ghost use mathlib.Core.Path.{_≡_};
 ghost use mathlib.Core.Bool.{true};
-ghost use lib.Ieee.{binary64, ofBits};
+ghost use Prim.Native.Nat.{_/_};
+ghost use lib.Ieee.{binary64, le, ofBits};
 ghost use lib.Ieee.Scale.{finite};
-ghost use Rattle.doubles.specs.Doubles.{within, parts as Doubles·parts};
+ghost use lib.Ieee.Positive.{num, den};
+ghost use Rattle.doubles.specs.Doubles.{nought, scale, within, parts as Doubles·parts};
 
 // The weights of a pattern's sign and of its exponent, and the exponent of an infinity.
 const SIGN: u64 = 1 << 63;
@@ -43,17 +45,25 @@ pub fn is_within(x: f64) -> bool
     false
 }
 
-// x in parts of S, rounded down. Its digits, the leading one among them, count 2^(exponent - 1075) each, and with S for a unit 2^(exponent - 1045).
-// Below an exponent of 993 x is less than one part; the largest is that of 1, 1023.
+// x in parts of S: its product with 2^30, which is exact, rounded down.
 pub fn parts(x: f64) -> u32
     requires { ⌜ within x ≡ true ⌝ }
     ensures { λ r. ⌜ r ≡ Doubles·parts x ⌝ }
 {
+    rounded_down(x * 1073741824.0)
+}
+
+// x, in 0 to 2^30, rounded down from its bits, whatever the sign of a zero. Its digits, the leading one among them, count 2^(exponent - 1075) each.
+// Below an exponent of 1023 x is less than 1; the largest is that of 2^30, 1053.
+fn rounded_down(x: f64) -> u32
+    requires { ⌜ (le nought x ≡ true) × (le x scale ≡ true) ⌝ }
+    ensures { λ r. ⌜ r ≡ num x / den x ⌝ }
+{
     let bits: u64 = f64::to_bits(x);
     let exponent: u64 = (bits >> 52) % 2048;
-    if exponent < 993 {
+    if exponent < 1023 {
         return 0;
     }
     let digits: u64 = UNIT + bits % UNIT;
-    (digits >> (1045 - exponent)) as u32
+    (digits >> (1075 - exponent)) as u32
 }

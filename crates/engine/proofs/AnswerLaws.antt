@@ -21,29 +21,31 @@ use Rattle.model.specs.Refusal.{outside, rows-needed, workspace-needed}
 use Rattle.model.proofs.LevelLaws.{level-later}
 use Rattle.model.proofs.Facts.{Facts, horizon-is}
 use Rattle.model.proofs.Rooms.{rows-few}
+use Rattle.model.proofs.MemoryLaws.{filled, untouched}
 use Rattle.model.proofs.Opening.{value-allowed, value-forbidden}
 use Rattle.engine.specs.declared.Answer.{Answer}
 use Rattle.engine.specs.declared.bounds.LastRows.{LastRows}
 use Rattle.engine.specs.declared.bounds.LastRows.the-variants.{Placed, Ruin}
-use Rattle.month_rule.specs.declared.rows.Shape.{Shape}
-use Rattle.claims.specs.Values.{Parts}
-use Rattle.month_rule.specs.Rows.{PlanTerms, Replaced}
-use Rattle.month_rule.specs.Shapes.{rows-size, values-in, rule-by}
-use Rattle.month_rule.proofs.RowLaws.{parts-part}
+use Rattle.month_rows.specs.declared.rows.Shape.{Shape}
+use Rattle.month_rule.specs.Months.{PlanTerms, rule-by}
+use Rattle.month_rows.specs.Rows.{Replaced}
+use Rattle.month_rows.specs.Shapes.{rows-size, values-in}
+use Rattle.month_rows.proofs.RowLaws.{chances-parts}
 use Rattle.ruin_rows.specs.Terms.{RuinTerms}
 use Rattle.questions.specs.Needs.{shape-of}
 use Rattle.engine.specs.LastRows.{last-rows, past-last, LastIn, LastFits, opening-value}
-use Rattle.engine.specs.Answers.{refused, bounds-answer, cleared-after}
+use Rattle.engine.specs.Answers.{refused, bounds-answer}
+use Rattle.model.specs.Memory.{cleared-after}
 use Rattle.questions.proofs.ShapeLaws.{shape-rows, shape-width, last-agree, shape-value}
 
 -- The clauses of a call that answers two bounds: of a refusal, of which nothing else is promised (E) …
 pub refused-out :
     {E : Type 0} (r : Answer) (n number needed low high : ℕ) (ws : List ℕ) → r ≡ refused n → n ≡ number → (n ≡ 0 → ⊥) →
     (r ≡ bounds-answer number low high) × ((ws ≡ cleared-after number needed ws) × (r .refusal ≡ 0 → E))
-unfolding refused bounds-answer cleared-after
+unfolding refused bounds-answer
 refused-out r n number needed low high ws er e ne = (
   rw (er, ← e, ne-eqb n 0 ne),
-  (rw (← e, ne-eqb n 0 ne), λ z. absurd (ne (sym (ap (λ (a : Answer). a .refusal) er) ∙ z))),
+  (untouched n number needed ws e ne, λ z. absurd (ne (sym (ap (λ (a : Answer). a .refusal) er) ∙ z))),
 )
 
 -- … and of an answer that was not refused: what holds of the definition's bounds holds of its numbers.
@@ -51,11 +53,11 @@ pub answered-out :
     {p : Plan} {gap-months : List ℕ} {W : ℕ} (r : Answer) (number m needed : ℕ) (ws ws′ : List ℕ) {low high low′ high′ : ℕ} → number ≡ 0 →
     r ≡ bounds-answer 0 low high → low ≡ low′ → high ≡ high′ → ws′ ≡ replicate m 0 ++ drop m ws → m ≡ needed → Encloses p gap-months W low′ high′ →
     (r ≡ bounds-answer number low′ high′) × ((ws′ ≡ cleared-after number needed ws) × (r .refusal ≡ 0 → Encloses p gap-months W (r .lower) (r .upper)))
-unfolding bounds-answer cleared-after
+unfolding bounds-answer
 answered-out r number m needed ws ws′ e worked el eh cleared em encloses = (
   rw (e, ← el, ← eh) worked,
   (
-    rw (e, ← em) cleared,
+    cleared ∙ ap (λ (k : ℕ). replicate k 0 ++ drop k ws) em ∙ sym (filled number needed (replicate needed 0) ws e),
     λ _. rw (ap (λ (a : Answer). a .lower) worked ∙ el, ap (λ (a : Answer). a .upper) worked ∙ eh) encloses,
   ),
 )
@@ -84,9 +86,6 @@ severity-lent h row = let sizes : h .months + h .sizes - h .months ≡ h .sizes 
 tail-lent : (h : Head) (row : List ℕ) → getD row (h .months + h .sizes) 0 ≡ plan-of h row .tail
 unfolding plan-of
 tail-lent h row = refl
-
-pub chances-parts : (h : Head) (row : List ℕ) → Facts h row → (months : ℕ) → Parts (take months row)
-chances-parts h row f months = parts-part row 0 months (record { each = f .numbers-fit })
 
 pub terms-lent :
     (h : Head) (row : List ℕ) → Facts h row → (months : ℕ) → PlanTerms (take (h .months + h .sizes - h .months) (drop (h .months) row)) (take months row)

@@ -2,20 +2,16 @@
 -- and changes no lent memory."
 use Prim.Native.Nat.{ℕ}
 use mathlib.Core.Bool.{cond}
-use mathlib.Core.List.{List, _++_}
+use mathlib.Core.List.{List}
 use lib.Dec.{eqb}
-use lib.ListN.{length, drop, replicate}
+use lib.ListN.{length}
 use Rattle.model.specs.declared.Head.{Head}
 use Rattle.model.specs.declared.Ask.{Ask}
 use Rattle.engine.specs.declared.Answer.{Answer}
-use Rattle.engine.specs.declared.CountRow.{CountRow}
-use Rattle.engine.specs.declared.CountAnswer.{CountAnswer}
-use Rattle.model.specs.Limits.{places}
-use Rattle.model.specs.declared.Rounding.the-variants.{Down, Up}
 use Rattle.model.specs.Plan.{Plan, plan-of}
-use Rattle.model.specs.CountRow.{count-row, tabulate}
 use Rattle.model.specs.Bounds.{lower, upper, ruin-lower, ruin-upper}
-use Rattle.model.specs.Refusal.{ask-refusal, ruin-refusal, count-refusal, workspace-needed, survival-workspace}
+use Rattle.model.specs.Memory.{cleared-after}
+use Rattle.model.specs.Refusal.{ask-refusal, ruin-refusal, workspace-needed, survival-workspace}
 
 -- the answer of a refusal
 unfoldable pub refused : ℕ → Answer
@@ -25,10 +21,6 @@ refused number = record { refusal = number; lower = 0; upper = 0 }
 unfoldable pub bounds-answer : ℕ → ℕ → ℕ → Answer
 bounds-answer number low high = cond (eqb number 0) (record { refusal = 0; lower = low; upper = high }) (refused number)
 
--- the workspace after it: "After an answered question the needed part of the desk is all zero. … What lies past it is untouched in every case."
-unfoldable pub cleared-after : ℕ → ℕ → List ℕ → List ℕ
-cleared-after number needed workspace = cond (eqb number 0) (replicate needed 0 ++ drop needed workspace) workspace
-
 -- an ask, over the plan's row and a workspace of the given length
 unfoldable pub answer : Ask → List ℕ → ℕ → Answer
 answer a row room = bounds-answer (ask-refusal a row room) (lower p (a .question)) (upper p (a .question))
@@ -36,6 +28,7 @@ answer a row room = bounds-answer (ask-refusal a row room) (lower p (a .question
     p : Plan
     p = plan-of (a .head) row
 
+-- and the workspace after it
 abbrev pub workspace-after : Ask → List ℕ → List ℕ → List ℕ
 workspace-after a row workspace = cleared-after (ask-refusal a row (length workspace)) (workspace-needed a) workspace
 
@@ -48,22 +41,3 @@ ruin-answer h t row room = bounds-answer (ruin-refusal h t row room) (ruin-lower
 
 abbrev pub ruin-workspace-after : Head → ℕ → List ℕ → List ℕ → List ℕ
 ruin-workspace-after h t row workspace = cleared-after (ruin-refusal h t row (length workspace)) (survival-workspace h) workspace
-
--- "It comes back whole, as a row of … lower and a row of … upper bounds"
-unfoldable pub count-rows : List ℕ → CountRow
-count-rows chances =
-    record { lower = tabulate places (count-row Down chances); upper = tabulate places (count-row Up chances) }
-
--- the count row of a refusal
-unfoldable pub count-refused : ℕ → CountAnswer
-count-refused number = record { refusal = number; row = record { lower = replicate places 0; upper = replicate places 0 } }
-
--- the answer of the count row call
-unfoldable pub count-answer : Head → List ℕ → CountAnswer
-count-answer h row =
-    cond (eqb number 0)
-    (record { refusal = 0; row = count-rows (plan-of h row .chances) })
-    (count-refused number)
-  where
-    number : ℕ
-    number = count-refusal h row

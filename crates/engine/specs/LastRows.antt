@@ -6,13 +6,14 @@ use lib.ListN.{take}
 use Rattle.model.specs.declared.Head.{Head}
 use Rattle.engine.specs.declared.bounds.LastRows.{LastRows}
 use Rattle.engine.specs.declared.bounds.LastRows.the-variants.{Placed, Ruin}
-use Rattle.month_rule.specs.declared.rows.Shape.{Shape}
+use Rattle.month_rows.specs.declared.rows.Shape.{Shape}
 use Rattle.model.specs.declared.Rounding.{Rounding}
 use Rattle.model.specs.Plan.{Plan}
 use Rattle.model.specs.Levels.{row-levels}
 use Rattle.model.specs.MonthRule.{Row, month, values, all-placed, ruin-row}
-use Rattle.month_rule.specs.Rows.{at}
-use Rattle.month_rule.specs.Shapes.{rows-size, row-with, values-in, rule-by}
+use Rattle.month_rows.specs.Rows.{at}
+use Rattle.month_rows.specs.Shapes.{rows-size, row-with, values-in}
+use Rattle.month_rule.specs.Months.{rule-by}
 use Rattle.ruin_rows.specs.Terms.{RuinTerms}
 
 -- their values, by the claims left and the level

@@ -1,4 +1,3 @@
--- What the contracts cite: Answers for the calls, the others for the functions below them.
+-- What the contracts cite: Answers for the calls, LastRows for the functions below them.
 pub mod LastRows
-pub mod Counts
 pub mod Answers

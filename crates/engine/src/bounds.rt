@@ -6,13 +6,13 @@ ghost use Rattle.model.specs.declared.Rounding.the-variants.{Down, Up};
 ghost use Rattle.model.specs.Levels.{largest-level};
 ghost use Rattle.model.specs.MonthRule.{month, values};
 ghost use Rattle.claims.specs.Values.{Parts};
-ghost use Rattle.month_rule.specs.Rows.{PlanTerms};
-ghost use Rattle.month_rule.specs.Shapes.{rows-size, rule-by};
+ghost use Rattle.month_rule.specs.Months.{PlanTerms, rule-by};
+ghost use Rattle.month_rows.specs.Shapes.{rows-size};
 ghost use Rattle.engine.specs.LastRows.{last-rows, LastIn, LastFits};
+use model::Bounds;
 use model::GAIN;
+use month_rows::rows::Shape;
 use month_rule::halves;
-use month_rule::halves::Bounds;
-use month_rule::rows::Shape;
 use ruin_rows::ruin_halves;
 
 // The rows from which the months go back: S where all claims are placed, or those before a month with this chance in which the fund is ruined.

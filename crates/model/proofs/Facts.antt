@@ -26,6 +26,10 @@ both : (a b : Bool) → a && b ≡ true → (a ≡ true) × (b ≡ true)
 both true b e = (refl, e)
 both false b e = (e, cc)
 
+not-true : (b : Bool) → not b ≡ true → b ≡ false
+not-true true e = cc
+not-true false e = refl
+
 pub neither : (a b : Bool) → a || b ≡ false → (a ≡ false) × (b ≡ false)
 neither true b e = (e, cc)
 neither false b e = (refl, e)
@@ -55,17 +59,33 @@ none-fits-append xs ys e none = go (first xs) (sym (first-append xs ys e) ∙ no
     go zero e′ = (refl, e′)
     go (suc n) e′ = absurd (omega (arith, rw (ne-eqb (suc n) 0 (λ z. omega arith)) at e′))
 
--- the number of the first check that fits is below what all numbers are below
-pub first-below : (limit : ℕ) → 0 < limit → (cs : List (ℕ × Bool)) → all (λ c. ltb (c .0) limit) cs ≡ true → first cs < limit
+-- no check of a list has this number; of a table this computes
+abbrev pub lacks : ℕ → List (ℕ × Bool) → Bool
+lacks n checks = all (λ c. not (eqb (c .0) n)) checks
+
+-- a number that no check has is not given
+pub first-lacks : (n : ℕ) → 0 < n → (cs : List (ℕ × Bool)) → lacks n cs ≡ true → first cs ≡ n → ⊥
 unfolding first all
-first-below limit above [] e = above
-first-below limit above (c ∷ cs) e =
-    let parts = both (ltb (c .0) limit) (all (λ c. ltb (c .0) limit) cs) e in
-    go (c .1) (c .0) (ltb-true (c .0) limit (parts .0)) (first-below limit above cs (parts .1))
+first-lacks n some [] e z = omega (arith, z)
+first-lacks n some (c ∷ cs) e z =
+    let parts = both (not (eqb (c .0) n)) (lacks n cs) e in
+    go (c .1) (c .0) (parts .0) (first-lacks n some cs (parts .1)) z
   where
-    go : (fits : Bool) (n : ℕ) → n < limit → first cs < limit → cond fits n (first cs) < limit
-    go true n l later = l
-    go false n l later = later
+    go : (fits : Bool) (m : ℕ) → not (eqb m n) ≡ true → (first cs ≡ n → ⊥) → cond fits m (first cs) ≡ n → ⊥
+    go true m other later z = eqb-false m n (not-true (eqb m n) other) z
+    go false m other later z = later z
+
+-- one that the last check has, and no other, is given only where that check fits and no other does
+pub last-given :
+    (n : ℕ) → 0 < n → (cs : List (ℕ × Bool)) (fits : Bool) → numbered cs ≡ true → lacks n cs ≡ true → first (cs ++ (n, fits) ∷ []) ≡ n →
+    (first cs ≡ 0) × (fits ≡ true)
+unfolding first
+last-given n some cs fits e other z = go (first cs) fits (first-lacks n some cs other) (sym (first-append cs ((n, fits) ∷ []) e) ∙ z)
+  where
+    go : (m : ℕ) (fits : Bool) → (m ≡ n → ⊥) → cond (eqb m 0) (cond fits n 0) m ≡ n → (m ≡ 0) × (fits ≡ true)
+    go zero true differs z = (refl, refl)
+    go zero false differs z = absurd (omega (arith, z, some))
+    go (suc m) fits differs z = absurd (differs (rw (ne-eqb (suc m) 0 (λ y. omega (arith, y))) at z))
 
 pub head-numbered : (h : Head) → numbered (head-checks h) ≡ true
 unfolding all head-checks

@@ -16,6 +16,7 @@ pub mod Counts
 pub mod Moves
 pub mod Rising
 pub mod Filling
+pub mod MemoryLaws
 pub mod FirstClaimLaw
 pub mod Tail
 pub mod Opening

@@ -11,7 +11,7 @@ use Rattle.model.specs.declared.Question.the-variants.{Survive, Both, Hi
 use Rattle.model.specs.declared.Ask.{Ask}
 use Rattle.model.specs.Limits.{max-claims, level-room, workspace-room}
 use Rattle.model.specs.Levels.{gain, largest-level, row-levels}
-use Rattle.model.specs.Format.{head-bits, bit-length, byte-length}
+use Rattle.model.specs.Format.{head-bits, head-bytes, bit-length, byte-length}
 use Rattle.model.specs.Refusal.{HeadAccepted, outside, rows-needed, workspace-needed}
 use Rattle.model.specs.Figures.{longest-plan, Figures}
 use Rattle.model.proofs.Facts.{head-facts}
@@ -22,7 +22,7 @@ unfolding longest-plan byte-length bit-length head-bits
 byte-length-fits h accepted = omega (arith, head-facts h accepted)
 
 -- the longest plan has a head, and its bits are few enough for any machine number
-pub longest-between : (3 ≤ longest-plan) × (longest-plan < 2 ^ 16)
+pub longest-between : (head-bytes ≤ longest-plan) × (longest-plan < 2 ^ 16)
 unfolding longest-plan byte-length bit-length head-bits
 longest-between = omega arith
 

@@ -24,8 +24,7 @@ use Rattle.model.specs.Exact.{path-from, survives, keeps, first-ruin, we
 use Rattle.model.specs.MonthRule.{Row, Month, month, exact-month, kept, claimed-row, values, value, rule-of, last-of, claims-of, opening-allowed, ruin-weight, ruin-row, carried-back}
 use Rattle.model.specs.CountRow.{count-row, exact-count-month, after-months, no-months}
 use Rattle.model.specs.FirstClaim.{some-claim, first-claim-survival}
-use Rattle.model.specs.Bounds.{bound, lower, upper, ruin-bound, ruin-lower, ruin-upper, ruin-lowers, ruin-uppers, count-lower, count-upper}
-use Rattle.model.specs.Bounds.{live-months, months-to, month-gap, Encloses, MonthLimits, RuinLimits, CountLimits}
+use Rattle.model.specs.Bounds.{bound, lower, upper, ruin-bound, ruin-lower, ruin-upper, ruin-lowers, ruin-uppers, count-lower, count-upper, live-months, months-to, month-gap, Encloses, EnclosesQuestion, EnclosesCount, MonthLimits, RuinLimits, CountLimits}
 use Rattle.model.specs.Refusal.{Accepted}
 use Rattle.model.proofs.Facts.{facts}
 use Rattle.model.proofs.SumLaws.{pow-two-more}
@@ -139,7 +138,7 @@ module _ (h : Head) (row : List ℕ) (accepted : Accepted h row) where
 
   -- Demand 3, of the definitions: enclosure and gap for every question and every place of the count row
   pub enclosure :
-      (q : Question) → Encloses p (p .chances) (exact p q) (lower p q) (upper p q)
+      (q : Question) → EnclosesQuestion p q (lower p q) (upper p q)
   unfolding bound value
   enclosure q =
       record {
@@ -165,7 +164,7 @@ module _ (h : Head) (row : List ℕ) (accepted : Accepted h row) where
           (p .opening)))
 
   pub count-enclosure :
-      (k : ℕ) → Encloses p (p .chances) (exact-count p k) (count-lower p k) (count-upper p k)
+      (k : ℕ) → EnclosesCount p k (count-lower p k) (count-upper p k)
   count-enclosure k =
       record {
         below = rw (← unrounded-count k) (count-row-encloses downwards (p .chances) k);

@@ -10,6 +10,7 @@ use Rattle.model.specs.Scale.{S}
 use Rattle.model.specs.Sums.{sum, count}
 use Rattle.model.specs.Plan.{Plan, horizon, nth}
 use Rattle.model.specs.Levels.{gain}
+use Rattle.model.specs.Exact.{exact, exact-ruin, exact-count}
 use Rattle.model.specs.MonthRule.{Row, claim-sum, month, value, ruin-weight, ruin-row, carried-back}
 use Rattle.model.specs.SplitMonth.{split-parts}
 use Rattle.model.specs.CountRow.{one-before, count-row}
@@ -68,6 +69,16 @@ pub record Encloses (p : Plan) (gap-months : List ℕ) (W low high : ℕ) : Type
   pub above : W * S ≤ high * S ^ (2 * horizon p)
   -- "Gap rule": upper ≤ lower + Z, "Z instead of 2 × Z" by document 02
   pub gap : high ≤ low + month-gap * live-months gap-months
+
+-- … of a question's answer, of ruin in month t, and of place k of the count row
+abbrev pub EnclosesQuestion : Plan → Question → ℕ → ℕ → Type 0
+EnclosesQuestion p q low high = Encloses p (p .chances) (exact p q) low high
+
+abbrev pub EnclosesRuin : Plan → ℕ → ℕ → ℕ → Type 0
+EnclosesRuin p t low high = Encloses p (months-to p t) (exact-ruin p t) low high
+
+abbrev pub EnclosesCount : Plan → ℕ → ℕ → ℕ → Type 0
+EnclosesCount p k low high = Encloses p (p .chances) (exact-count p k) low high
 
 -- "No sum need pass 2^62"
 unfoldable pub largest : ℕ

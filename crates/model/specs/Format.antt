@@ -15,16 +15,37 @@ unfoldable pub number : List ℕ → ℕ
 number [] = 0
 number (b ∷ bs) = b * 2 ^ length bs + number bs
 
--- "n in 7 bits, u in 8, m in 9, then the row at 31 bits a number"
+-- "n in 7 bits, u in 8, m in 9, then the row at 31 bits a number": the widths, which stand here alone for the definitions
+abbrev pub months-width : ℕ
+months-width = 7
+
+abbrev pub opening-width : ℕ
+opening-width = 8
+
+-- where the sizes begin
+abbrev pub sizes-start : ℕ
+sizes-start = months-width + opening-width
+
+abbrev pub sizes-width : ℕ
+sizes-width = 9
+
+abbrev pub number-width : ℕ
+number-width = 31
+
+-- the bits of the head, and the bytes that they lie in
 unfoldable pub head-bits : ℕ
-head-bits = 7 + 8 + 9
+head-bits = sizes-start + sizes-width
+
+abbrev pub head-bytes : ℕ
+head-bytes = (head-bits + 7) / 8
 
 unfoldable pub plan-bits : Head → List ℕ → List ℕ
-plan-bits h row = bits 7 (h .months) ++ bits 8 (h .opening) ++ bits 9 (h .sizes) ++ flatMap (bits 31) row
+plan-bits h row =
+    bits months-width (h .months) ++ bits opening-width (h .opening) ++ bits sizes-width (h .sizes) ++ flatMap (bits number-width) row
 
 -- "The length is exact": of the bits, and in bytes with the fill of the last one
 unfoldable pub bit-length : Head → ℕ
-bit-length h = head-bits + 31 * row-length h
+bit-length h = head-bits + number-width * row-length h
 
 unfoldable pub byte-length : Head → ℕ
 byte-length h = (bit-length h + 7) / 8
@@ -37,9 +58,9 @@ bits-of bytes = flatMap (bits 8) bytes
 unfoldable pub head-of : List ℕ → Head
 head-of bytes =
     record {
-      months = number (take 7 (bits-of bytes));
-      opening = number (take 8 (drop 7 (bits-of bytes)));
-      sizes = number (take 9 (drop 15 (bits-of bytes)));
+      months = number (take months-width (bits-of bytes));
+      opening = number (take opening-width (drop months-width (bits-of bytes)));
+      sizes = number (take sizes-width (drop sizes-start (bits-of bytes)));
     }
 
 -- the first numbers that stand in fields of the given width
@@ -49,7 +70,7 @@ fields width (suc n) bs = number (take width bs) ∷ fields width n (drop width 
 
 -- the row that follows the head
 unfoldable pub row-of : List ℕ → List ℕ
-row-of bytes = fields 31 (row-length (head-of bytes)) (drop head-bits (bits-of bytes))
+row-of bytes = fields number-width (row-length (head-of bytes)) (drop head-bits (bits-of bytes))
 
 -- the bits that follow the row
 unfoldable pub fill-of : List ℕ → List ℕ

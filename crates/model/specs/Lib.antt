@@ -15,5 +15,6 @@ pub mod Bounds
 pub mod Sensitivity
 pub mod Format
 pub mod Refusal
+pub mod Memory
 pub mod Figures
 pub mod Funds

@@ -14,7 +14,7 @@ use Rattle.model.specs.Scale.{S}
 use Rattle.model.specs.Sums.{total, any}
 use Rattle.model.specs.Plan.{Plan, plan-of, row-length, horizon, sizes}
 use Rattle.model.specs.Levels.{largest-level, row-levels}
-use Rattle.model.specs.Format.{head-of, row-of, fill-of, byte-length}
+use Rattle.model.specs.Format.{head-bytes, head-of, row-of, fill-of, byte-length}
 
 -- "Checks go in the order of the numbers": the first number of the list that fits
 unfoldable pub first : List (ℕ × Bool) → ℕ
@@ -119,11 +119,11 @@ count-refusal h row = plan-refusal h row
 unfoldable pub write-refusal : Head → List ℕ → ℕ → ℕ
 write-refusal h row room = first (plan-checks h row ++ room-check (byte-length h) room ∷ [])
 
--- Reading: the bytes, and the length of the row lent; 1 stub and 6 padding are of bytes alone
+-- Reading: the bytes, and the length of the row lent; 1 stub, "fewer than 3 bytes", and 6 padding are of bytes alone
 unfoldable pub read-refusal : List ℕ → ℕ → ℕ
 read-refusal bytes room =
     first
-    ((1, ltb (length bytes) 3)
+    ((1, ltb (length bytes) head-bytes)
     ∷ head-checks h
     ++ (5, not (eqb (length bytes) (byte-length h)))
     ∷ (6, any (eqb 1) (fill-of bytes))

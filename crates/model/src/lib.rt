@@ -36,3 +36,9 @@ pub struct Ask {
     pub head: Head,
     pub question: Question,
 }
+
+// A lower and an upper bound in parts of S.
+pub struct Bounds {
+    pub lower: u32,
+    pub upper: u32,
+}

@@ -14,11 +14,12 @@ use Rattle.model.specs.declared.Rounding.{Rounding}
 use Rattle.model.specs.Levels.{gain, largest-level}
 use Rattle.model.specs.MonthRule.{Row, Rule, month, kept, claimed-row, month-back, values}
 use Rattle.model.proofs.LevelLaws.{level-start, level-next, level-from}
-use Rattle.month_rule.specs.declared.rows.Shape.{Shape}
-use Rattle.month_rule.specs.Rows.{after-claim-by, at, between}
-use Rattle.month_rule.specs.Shapes.{row-with, values-in, rule-by, allowed-places, beyond-opening, TakenBack}
+use Rattle.month_rows.specs.declared.rows.Shape.{Shape}
+use Rattle.month_rows.specs.Rows.{after-claim-by, at, between}
+use Rattle.month_rows.specs.Shapes.{row-with, values-in, allowed-places}
+use Rattle.month_rule.specs.Months.{rule-by, beyond-opening, TakenBack}
 use Rattle.model.proofs.SumLaws.{below-or-not}
-use Rattle.month_rule.proofs.OneMonth.{month-agree}
+use Rattle.month_rows.proofs.OneMonth.{month-agree}
 
 -- two rules that agree on the first rows, up to a level
 pub record Agree (q q′ : Rule) (count top : ℕ) : Type 0 where

@@ -9,12 +9,13 @@ use lib.ListN.{length, getD, take, drop, replicate, length-drop, length-replicat
 use lib.Seq.{length-take-le, length-front, take-at, drop-at, take-all, getD-drop}
 use Rattle.model.specs.Scale.{S}
 use Rattle.model.specs.MonthRule.{all-placed}
-use Rattle.month_rule.specs.declared.rows.Shape.{Shape}
+use Rattle.month_rows.specs.declared.rows.Shape.{Shape}
 use Rattle.claims.specs.Values.{Parts}
-use Rattle.month_rule.specs.Shapes.{rows-size, values-in, RowsIn, HalvesIn}
-use Rattle.month_rule.proofs.RowLaws.{parts-part, parts-drop}
-use Rattle.month_rule.proofs.ForbidLaws.{getD-zeros}
-use Rattle.month_rule.proofs.ManyRows.{parts-append, parts-put, put-before, put-in, row-before-row}
+use Rattle.month_rows.specs.Shapes.{rows-size, values-in, RowsIn}
+use Rattle.month_rule.specs.Months.{HalvesIn}
+use Rattle.month_rows.proofs.RowLaws.{parts-part, parts-drop}
+use Rattle.month_rows.proofs.ForbidLaws.{getD-zeros}
+use Rattle.month_rows.proofs.ManyRows.{parts-append, parts-put, put-before, put-in, row-before-row}
 
 -- each half holds the rows of the shape
 pub lower-rows : (shape : Shape) (xs : List ℕ) → HalvesIn shape xs → RowsIn shape (take (rows-size shape) xs)

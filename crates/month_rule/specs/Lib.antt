@@ -1,3 +1,2 @@
 -- What the contracts cite.
-pub mod Rows
-pub mod Shapes
+pub mod Months

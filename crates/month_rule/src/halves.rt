@@ -8,19 +8,14 @@ ghost use Rattle.model.specs.Levels.{largest-level};
 ghost use Rattle.model.specs.MonthRule.{all-placed};
 ghost use Rattle.claims.specs.Values.{Parts};
 ghost use Rattle.claims.specs.Listing.{Listing};
-ghost use Rattle.month_rule.specs.Rows.{PlanTerms};
-ghost use Rattle.month_rule.specs.Shapes.{rows-size, values-in, HalvesIn, TakenBack};
+ghost use Rattle.month_rule.specs.Months.{PlanTerms, HalvesIn, TakenBack};
+ghost use Rattle.month_rows.specs.Shapes.{rows-size, values-in};
 use crate::months::all_months_back;
-use crate::rows::Shape;
-use crate::rows::fill;
 use claims::sizes::list_sizes;
+use model::Bounds;
 use model::Rounding;
-
-// A lower and an upper bound in parts of S.
-pub struct Bounds {
-    pub lower: u32,
-    pub upper: u32,
-}
+use month_rows::rows::Shape;
+use month_rows::rows::fill;
 
 // The rows after the last month in one half: S with no claims left, and 0 otherwise.
 fn last_rows(rows: &mut [u32], shape: Shape)

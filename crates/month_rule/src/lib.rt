@@ -1,6 +1,4 @@
-// The month rule over rows of values in lent memory: the layer below the engine's calls. What its functions require, an accepted plan and a
+// The month rule over all months: the rows of a question and the two halves of a workspace, taken back. What its functions require, an accepted plan and a
 // question within its limits give.
 pub mod halves;
 pub mod months;
-pub mod rows;
-pub mod value;

@@ -6,13 +6,14 @@ ghost use Rattle.model.specs.Levels.{gain, largest-level};
 ghost use Rattle.model.specs.MonthRule.{kept, month, month-back};
 ghost use Rattle.claims.specs.Values.{Parts};
 ghost use Rattle.claims.specs.Listing.{Listing};
-ghost use Rattle.month_rule.specs.Rows.{at, MonthTerms, PlanTerms};
-ghost use Rattle.month_rule.specs.Shapes.{row-with, values-in, RowsIn, TopIn, rule-by, allowed-places, TakenBack};
-use crate::rows::Shape;
-use crate::rows::all_rows_back;
-use crate::rows::forbid_rows;
+ghost use Rattle.month_rows.specs.Rows.{at, MonthTerms};
+ghost use Rattle.month_rule.specs.Months.{PlanTerms, rule-by, TakenBack};
+ghost use Rattle.month_rows.specs.Shapes.{row-with, values-in, RowsIn, TopIn, allowed-places};
 use model::GAIN;
 use model::Rounding;
+use month_rows::rows::Shape;
+use month_rows::rows::all_rows_back;
+use month_rows::rows::forbid_rows;
 
 // One month: what lies at forbidden levels counts as 0, then every row goes back.
 pub fn month_back(

@@ -1,9 +1,6 @@
 // The lengths that follow from an accepted head: of a plan's row, and of a row of values.
 use model::Head;
-use model::limits;
 ghost use mathlib.Core.Path.{_≡_};
-ghost use lib.ListN.{length, replicate};
-ghost use Rattle.model.specs.Limits.{row-room};
 ghost use Rattle.model.specs.Levels.{largest-level, row-levels};
 ghost use Rattle.model.specs.Plan.{row-length};
 ghost use Rattle.model.specs.Refusal.{HeadAccepted};
@@ -30,12 +27,4 @@ pub fn row_levels(head: Head) -> usize
     ensures { λ r. ⌜ r ≡ row-levels (head .opening) (head .months) ⌝ }
 {
     largest_level(head) + 1
-}
-
-// Room for every plan's row. The second `ensures` gives the length, which lending a part of the array needs.
-pub fn blank_row() -> [u32; limits::ROW]
-    ensures blank { λ r. ⌜ r ≡ replicate row-room 0 ⌝ }
-    ensures sized { λ r. ⌜ row-room ≡ length r ⌝ }
-{
-    [0; limits::ROW]
 }

@@ -16,8 +16,8 @@ use Rattle.model.specs.declared.Rounding.{Rounding}
 use Rattle.model.specs.Scale.{S}
 use Rattle.model.specs.MonthRule.{Row, month, values, rule-of, last-of, claims-of, claimed-row, all-placed, one-fewer}
 use Rattle.model.specs.Refusal.{rows-needed}
-use Rattle.month_rule.specs.Rows.{between, after-claim-by}
-use Rattle.month_rule.specs.Shapes.{rule-by}
+use Rattle.month_rows.specs.Rows.{between, after-claim-by}
+use Rattle.month_rule.specs.Months.{rule-by}
 use Rattle.model.proofs.SumLaws.{below-or-not}
 use Rattle.month_rule.proofs.AllMonths.{Agree, values-agree}
 use Rattle.questions.specs.Needs.{shape-of}

@@ -1,2 +1,3 @@
--- What the contracts cite.
+-- What the contracts cite, here and above.
 pub mod Needs
+pub mod Survival

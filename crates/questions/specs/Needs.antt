@@ -3,7 +3,7 @@ use Prim.Native.Nat.{ℕ, _+_}
 use mathlib.Core.Bool.{true, false}
 use Rattle.model.specs.declared.Question.{Question}
 use Rattle.model.specs.declared.Question.the-variants.{Survive, Both, High, Low}
-use Rattle.month_rule.specs.declared.rows.Shape.{Shape}
+use Rattle.month_rows.specs.declared.rows.Shape.{Shape}
 
 -- the shape of a question over rows of a width: only both k counts claims, only high and low forbid levels that a row has
 unfoldable pub shape-of : Question → ℕ → Shape

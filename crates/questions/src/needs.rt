@@ -7,7 +7,7 @@ ghost use mathlib.Core.Bool.{false};
 ghost use Rattle.model.specs.MonthRule.{opening-allowed};
 ghost use Rattle.model.specs.Refusal.{HeadAccepted, outside, workspace-needed};
 ghost use Rattle.questions.specs.Needs.{shape-of};
-use month_rule::rows::Shape;
+use month_rows::rows::Shape;
 use plan::lengths;
 
 pub fn is_outside(question: Question) -> bool

@@ -12,9 +12,9 @@ use Rattle.model.specs.Limits.{row-room}
 use Rattle.model.specs.Scale.{S}
 use Rattle.model.specs.Sums.{any}
 use Rattle.model.proofs.SumLaws.{none-append}
-use Rattle.model.proofs.Rooms.{figures}
-use Rattle.codec.proofs.LongInput.{first-part}
-use Rattle.opening.specs.Refusal.{target-outside}
+use Rattle.codec.specs.Input.{input-room}
+use Rattle.codec.proofs.LongInput.{reads-enough as LongInput·reads-enough}
+use Rattle.opening_search.specs.Refusal.{target-outside}
 use Rattle.text.specs.Text.{last-digit, digits, decimal}
 use Rattle.report_lines.specs.Lines.{refused-line}
 use Rattle.quote.specs.Quote.{quote-of}
@@ -22,15 +22,9 @@ use Rattle.quote.specs.Target.{not-digit, is-number, with-digit, spelled
 use Rattle.quote.proofs.Laws.{quote-refused}
 use Rattle.quote.proofs.Spelling.{read-as, spelled-more}
 
--- the bytes of the program's buffer for a plan
-abbrev buffer : ℕ
-buffer = 4096
-
--- what is printed of them is what is printed of all its input
-pub reads-enough : (bytes : List ℕ) (target : ℕ) → quote-of (take buffer bytes) target ≡ quote-of bytes target
-reads-enough bytes target =
-    first-part (λ part. quote-of part target) refused-line row-room (λ part. quote-refused part target) bytes buffer
-    (omega (arith, figures .plan-bytes))
+-- what the program prints is the quote of all its input
+pub reads-enough : (bytes : List ℕ) (target : ℕ) → quote-of (take input-room bytes) target ≡ quote-of bytes target
+reads-enough bytes target = LongInput·reads-enough (λ part. quote-of part target) refused-line row-room (λ part. quote-refused part target) bytes
 
 -- a number cut off at 32 bits is outside exactly if the number itself is
 cut-outside : (n : ℕ) → target-outside (min n most-parts) ≡ target-outside n

@@ -4,11 +4,11 @@ mod digits;
 use crate::digits::next_number;
 use crate::digits::not_digit;
 use model::Head;
-use opening::LeastAnswer;
+use opening_search::LeastAnswer;
 use plan::lengths::row_length;
 use report_lines::lines::put_numbered;
 use report_lines::lines::put_refused;
-use survival::rooms;
+use rooms::blank_survival_workspace;
 ghost use mathlib.Core.Path.{_≡_};
 ghost use Prim.Native.Nat.{_≤_};
 ghost use mathlib.Core.List.{_++_};
@@ -16,7 +16,7 @@ ghost use lib.ListN.{length, take, drop};
 ghost use Rattle.model.specs.Limits.{survival-room};
 ghost use Rattle.model.specs.Plan.{row-length};
 ghost use Rattle.model.specs.Refusal.{Accepted};
-ghost use Rattle.opening.specs.Answers.{least-answer};
+ghost use Rattle.opening_search.specs.Answers.{least-answer};
 ghost use Rattle.text.specs.Text.{Appended};
 ghost use Rattle.report_lines.specs.Lines.{line-room};
 ghost use Rattle.quote.specs.Quote.{answer-line, quote-of};
@@ -60,8 +60,8 @@ fn least_of(head: Head, row: &[u32], target: u32) -> LeastAnswer
     ensures { λ r. ⌜ r ≡ least-answer head (take (row-length head) (now (row .entry))) target survival-room ⌝ }
 {
     let used = row_length(head);
-    let mut workspace = rooms::workspace();
-    opening::least(head, &row[..used], target, &mut workspace)
+    let mut workspace = blank_survival_workspace();
+    opening_search::least(head, &row[..used], target, &mut workspace)
 }
 
 fn put_answer(text: &mut [u8], answer: LeastAnswer) -> usize

@@ -1,8 +1,9 @@
 -- Laws of asking on an accepted plan: what the engine answers, and what any number of questions leave of the workspace. Assumes nothing.
-use Prim.Native.Nat.{ℕ, zero, suc, max, _≤_}
+use Prim.Native.Nat.{ℕ, zero, suc, _+_, max, _≤_}
 use mathlib.Core.Path.{_≡_, refl, ap, _∙_}
 use mathlib.Core.Bool.{Bool, false}
 use mathlib.Core.List.{List, [], _∷_}
+use native.Mathlib.Numerals.{add-one}
 use native.Mathlib.Omega.{arith}
 use native.Mathlib.Nat.{max-le, max-zero, zero-max, suc-max-suc}
 use lib.ListN.{length, length-append, length-replicate, length-drop}
@@ -17,13 +18,19 @@ use Rattle.model.specs.Bounds.{lower, upper, ruin-lower, ruin-upper}
 use Rattle.model.specs.Refusal.{outside, month-outside, workspace-needed, survival-workspace, bounds-refusal}
 use Rattle.model.proofs.Facts.{accepted-head}
 use Rattle.model.proofs.Rooms.{workspace-fits}
-use Rattle.engine.specs.Answers.{bounds-answer, cleared-after, answer, workspace-after, ruin-answer, ruin-workspace-after}
+use Rattle.model.proofs.MemoryLaws.{filled}
+use Rattle.engine.specs.Answers.{bounds-answer, answer, workspace-after, ruin-answer, ruin-workspace-after}
+use Rattle.model.specs.Memory.{cleared-after}
 use Rattle.questions.proofs.RefusalLaws.{not-refused}
-use Rattle.report_lines.specs.Asking.{Answerable, zero-first, workspace-left, Cleared}
+use Rattle.report_lines.specs.Asking.{Answerable, zero-first, question-needs, workspace-left, largest-of, Cleared}
 
 -- no question asked
-pub cleared-none : (ws : List ℕ) → Cleared ws ws
-cleared-none ws = record { upto = 0; inside = omega arith; is = refl }
+pub nothing-cleared : (ws : List ℕ) → Cleared 0 ws ws
+nothing-cleared ws = record { inside = omega arith; is = refl }
+
+pub cleared-none : (f : ℕ → ℕ) (ws : List ℕ) → Cleared (largest-of 0 f) ws ws
+unfolding largest-of
+cleared-none f ws = nothing-cleared ws
 
 -- 0 up to two places is 0 up to the larger
 zero-more : (m n : ℕ) (ws : List ℕ) → zero-first m (zero-first n ws) ≡ zero-first (max m n) ws
@@ -32,22 +39,26 @@ zero-more (suc m) zero ws = rw max-zero
 zero-more (suc m) (suc n) [] = rw suc-max-suc (ap (λ (l : List ℕ). 0 ∷ l) (simp drop-nil at (zero-more m n [])))
 zero-more (suc m) (suc n) (x ∷ ws) = rw suc-max-suc (ap (λ (l : List ℕ). 0 ∷ l) (zero-more m n ws))
 
--- one question after another
-pub cleared-more : {b₀ b₁ b₂ : List ℕ} → Cleared b₀ b₁ → Cleared b₁ b₂ → Cleared b₀ b₂
-cleared-more {b₀} p q =
-    record {
-      upto = max (q .upto) (p .upto);
-      inside = max-le (q .inside) (p .inside);
-      is = q .is ∙ ap (zero-first (q .upto)) (p .is) ∙ zero-more (q .upto) (p .upto) b₀;
-    }
+-- some questions after others, and one more of those that are asked one by one
+pub cleared-more : {m n : ℕ} {b₀ b₁ b₂ : List ℕ} → Cleared m b₀ b₁ → Cleared n b₁ b₂ → Cleared (max n m) b₀ b₂
+cleared-more {m} {n} {b₀} p q =
+    record { inside = max-le (q .inside) (p .inside); is = q .is ∙ ap (zero-first n) (p .is) ∙ zero-more n m b₀ }
+
+pub cleared-turn : (f : ℕ → ℕ) {i : ℕ} {b₀ b₁ b₂ : List ℕ} → Cleared (largest-of i f) b₀ b₁ → Cleared (f i) b₁ b₂ → Cleared (largest-of (i + 1) f) b₀ b₂
+unfolding largest-of
+cleared-turn f p q = rw add-one (cleared-more p q)
+
+-- all of them asked
+pub cleared-all : (f : ℕ → ℕ) {i n : ℕ} {b b′ : List ℕ} → i ≡ n → Cleared (largest-of i f) b b′ → Cleared (largest-of n f) b b′
+cleared-all f e p = rw (← e) p
 
 -- a workspace with room for every question keeps its length, and the next can be asked
-pub cleared-long : {b b′ : List ℕ} → workspace-room ≤ length b → Cleared b b′ → length b′ ≡ length b
-cleared-long {b} room p =
+pub cleared-long : {n : ℕ} {b b′ : List ℕ} → workspace-room ≤ length b → Cleared n b b′ → length b′ ≡ length b
+cleared-long room p =
     let inside = p .inside in
     ap length (p .is) ∙ (simp (length-append, length-replicate, length-drop) (omega arith))
 
-pub answerable-still : {h : Head} {row b b′ : List ℕ} → Answerable h row b → Cleared b b′ → Answerable h row b′
+pub answerable-still : {h : Head} {row : List ℕ} {n : ℕ} {b b′ : List ℕ} → Answerable h row b → Cleared n b b′ → Answerable h row b′
 answerable-still a p = record { accepted = a .accepted; room = omega (arith, cleared-long (a .room) p, a .room) }
 
 -- a call that answers bounds, within the limits and with a workspace that no question passes
@@ -60,8 +71,7 @@ module _ {h : Head} {row ws : List ℕ} (a : Answerable h row ws) (o : Bool) (wi
   given low high = rw nothing-refuses
 
   leaves : cleared-after (bounds-refusal h row (10, o) needed (length ws)) needed ws ≡ zero-first needed ws
-  unfolding cleared-after
-  leaves = rw nothing-refuses
+  leaves = filled _ needed _ ws nothing-refuses
 
 -- one question
 module _ {h : Head} {row ws : List ℕ} (a : Answerable h row ws) (q : Question) (within : outside q ≡ false) where
@@ -78,8 +88,8 @@ module _ {h : Head} {row ws : List ℕ} (a : Answerable h row ws) (q : Question)
   pub asked-leaves : workspace-after ask row ws ≡ workspace-left h q ws
   asked-leaves = leaves a (outside q) within (workspace-needed ask) needed-fits
 
-  pub asked-clears : {ws′ : List ℕ} → ws′ ≡ workspace-left h q ws → Cleared ws ws′
-  asked-clears e = record { upto = workspace-needed ask; inside = needed-fits; is = e }
+  pub asked-clears : {ws′ : List ℕ} → ws′ ≡ workspace-left h q ws → Cleared (question-needs h q) ws ws′
+  asked-clears e = record { inside = needed-fits; is = e }
 
 -- ruin in a month, in the workspace of survive
 survive-inside : outside Survive ≡ false
@@ -94,5 +104,5 @@ module _ {h : Head} {row ws : List ℕ} (a : Answerable h row ws) (t : ℕ) (wit
   pub ruined-leaves : ruin-workspace-after h t row ws ≡ workspace-left h Survive ws
   ruined-leaves = leaves a (month-outside h t) within (survival-workspace h) (needed-fits a Survive survive-inside)
 
-  pub ruined-clears : {ws′ : List ℕ} → ws′ ≡ workspace-left h Survive ws → Cleared ws ws′
+  pub ruined-clears : {ws′ : List ℕ} → ws′ ≡ workspace-left h Survive ws → Cleared (question-needs h Survive) ws ws′
   ruined-clears e = asked-clears a Survive survive-inside e

@@ -1,3 +1,2 @@
 pub mod AskingLaws
 pub mod LineLaws
-pub mod RuinLaws

@@ -1,5 +1,5 @@
 -- What asking the engine needs of a plan and a workspace, and what it leaves of the workspace.
-use Prim.Native.Nat.{ℕ, _≤_}
+use Prim.Native.Nat.{ℕ, zero, suc, _+_, _≤_, max}
 use mathlib.Core.Path.{_≡_}
 use mathlib.Core.List.{List, _++_}
 use lib.ListN.{length, drop, replicate}
@@ -17,12 +17,20 @@ pub record Answerable (h : Head) (row workspace : List ℕ) : Type 0 where
 abbrev pub zero-first : ℕ → List ℕ → List ℕ
 zero-first n xs = replicate n 0 ++ drop n xs
 
+-- what one question needs of the workspace
+abbrev pub question-needs : Head → Question → ℕ
+question-needs h q = workspace-needed (record { head = h; question = q })
+
 -- "After an answered question the needed part of the desk is all zero": the workspace after one question
 abbrev pub workspace-left : Head → Question → List ℕ → List ℕ
-workspace-left h q workspace = zero-first (workspace-needed (record { head = h; question = q })) workspace
+workspace-left h q workspace = zero-first (question-needs h q) workspace
 
--- and after any number of them: 0 up to some place within the room of every question, and past it as it was
-pub record Cleared (before after : List ℕ) : Type 0 where
-  pub upto : ℕ
-  pub inside : upto ≤ workspace-room
-  pub is : after ≡ zero-first upto before
+-- the largest of the numbers f 0 to f (n − 1), 0 for none
+unfoldable pub largest-of : ℕ → (ℕ → ℕ) → ℕ
+largest-of zero f = 0
+largest-of (suc n) f = max (f n) (largest-of n f)
+
+-- the workspace after any number of questions: 0 up to what they need, which no question passes, and past it as it was
+pub record Cleared (needed : ℕ) (before after : List ℕ) : Type 0 where
+  pub inside : needed ≤ workspace-room
+  pub is : after ≡ zero-first needed before

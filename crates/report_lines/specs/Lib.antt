@@ -1,3 +1,3 @@
--- The lines of the reserve report: what asking needs and leaves, and the lines as bytes.
-pub mod Asking
+-- The lines of the reserve report: the lines as bytes, and what asking needs and leaves.
 pub mod Lines
+pub mod Asking

@@ -6,15 +6,11 @@ ghost use Rattle.model.specs.Plan.{plan-of};
 ghost use Rattle.model.specs.Refusal.{Accepted, outside, month-outside};
 ghost use Rattle.report_lines.specs.Asking.{Answerable, workspace-left};
 ghost use Rattle.report_lines.specs.Lines.{bounds-of, ruin-bounds-of, CountsOf};
-use engine::CountRow;
+use count_row::CountRow;
 use model::Ask;
+use model::Bounds;
 use model::Head;
 use model::Question;
-
-pub struct Bounds {
-    pub lower: u32,
-    pub upper: u32,
-}
 
 pub fn bounds_of(head: Head, question: Question, row: &[u32], workspace: &mut [u32]) -> Bounds
     requires { ⌜ Answerable head (now row) (now workspace) ⌝ }
@@ -46,7 +42,7 @@ pub fn count_row_of(head: Head, row: &[u32]) -> CountRow
     requires { ⌜ Accepted head (now row) ⌝ }
     ensures { λ r. ⌜ CountsOf (plan-of head (now (row .entry))) (r .lower) (r .upper) ⌝ }
 {
-    let answer = engine::count_claims(head, row);
+    let answer = count_row::count_claims(head, row);
     let counts = answer.row;
     counts
 }

@@ -33,9 +33,9 @@ fn put_bounds(text: &mut [u8], at: usize, question: Question, lower: u64, upper:
 {
     match question {
         Question::Survive => put_line(text, at, b"survive", &[lower, upper]),
-        Question::Both(k) => put_line(text, at, b"both", &[k as u64, lower, upper]),
-        Question::High(level) => put_line(text, at, b"high", &[level as u64, lower, upper]),
-        Question::Low(level) => put_line(text, at, b"low", &[level as u64, lower, upper]),
+        Question::Both(k) => put_numbered(text, at, b"both", k, lower, upper),
+        Question::High(level) => put_numbered(text, at, b"high", level, lower, upper),
+        Question::Low(level) => put_numbered(text, at, b"low", level, lower, upper),
     }
 }
 

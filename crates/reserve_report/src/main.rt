@@ -15,7 +15,7 @@ fn main() {
 
 fn print(bytes: &[u8]) {
     let mut text = io::large_buffer();
-    let n = report::report(bytes, &mut text);
+    let n = report_text::report(bytes, &mut text);
     streams::write_all(
         STDOUT_FILENO,
         &text[..n],

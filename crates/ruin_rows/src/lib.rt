@@ -7,14 +7,14 @@ ghost use Rattle.model.specs.declared.Rounding.the-variants.{Down, Up};
 ghost use Rattle.model.specs.Sums.{total};
 ghost use Rattle.model.specs.MonthRule.{ruin-weight, ruin-row};
 ghost use Rattle.claims.specs.Values.{Parts};
-ghost use Rattle.month_rule.specs.Rows.{Replaced};
+ghost use Rattle.month_rows.specs.Rows.{Replaced};
 ghost use Rattle.ruin_rows.specs.Terms.{RuinTerms};
 use model::GAIN;
 use model::Rounding;
-use month_rule::rows::fill;
-use month_rule::value::divide;
+use month_rows::rows::fill;
 use numbers::difference;
 use numbers::wide;
+use rounding::divide;
 
 // The weight of the claims that ruin at the level at which they come: of all sizes from that level on, and over.
 fn ruin_weight(severity: &[u32], tail: u32, level: usize) -> u64

@@ -18,7 +18,7 @@ fn main() {
 // The buffer for the plan holds more than the longest.
 fn convert(bytes: &[u8]) {
     let mut plan = io::buffer();
-    let answer = sheet::write_plan(bytes, &mut plan);
+    let answer = sheet_plan::write_plan(bytes, &mut plan);
     let refusal = answer.refusal;
     let n = answer.length;
     if refusal != 0 {

@@ -1,4 +1,3 @@
 -- The laws that the functions' proofs, and the calls above, cite.
 pub mod PairLaws
-pub mod RowLaws
 pub mod Theorems

@@ -6,29 +6,27 @@ use mathlib.Core.List.{List, [], _∷_, _++_}
 use native.Mathlib.Nat.{mul-one}
 use native.Mathlib.Omega.{arith}
 use lib.Dec.{ltb, eqb}
-use lib.ListN.{length, getD, take, drop, replicate, List·getD-append}
-use lib.Seq.{length-take-le}
+use lib.ListN.{length, getD, take, drop, List·getD-append}
 use borrow.Author.Tests.{lt-ltb, le-ltb, ltb-false, ne-eqb}
 use Rattle.model.specs.declared.Head.{Head}
 use Rattle.model.specs.declared.Rounding.the-variants.{Down, Up}
 use Rattle.model.specs.declared.Question.the-variants.{Survive}
 use Rattle.model.specs.Plan.{plan-of, opened}
 use Rattle.model.specs.Levels.{row-levels}
-use Rattle.model.specs.Exact.{exact}
-use Rattle.model.specs.Bounds.{lower, upper, Encloses}
+use Rattle.model.specs.Bounds.{lower, upper, EnclosesQuestion}
 use Rattle.model.specs.Limits.{survival-room, bounds-room}
 use Rattle.model.specs.Refusal.{first, plan-checks, plan-refusal, room-check, HeadAccepted, Accepted, outside, rows-needed, workspace-needed, survival-workspace}
 use Rattle.model.proofs.LevelLaws.{level-from}
 use Rattle.model.proofs.Facts.{head-facts, plan-numbered, plan-first, none-fits, none-fits-append, opened-accepted}
 use Rattle.model.proofs.Theorems.{enclosure}
-use Rattle.codec.proofs.Answered.{filled, kept}
-use Rattle.engine.specs.Answers.{bounds-answer, cleared-after, answer}
+use Rattle.model.proofs.MemoryLaws.{filled, kept}
+use Rattle.engine.specs.Answers.{bounds-answer, answer}
 use Rattle.engine.proofs.AnswerLaws.{severity-lent}
 use Rattle.questions.proofs.RefusalLaws.{Asked, not-refused}
 use Rattle.survival.specs.Openings.{opening-ask, interleaved, survival-bounds, bounds-needed, openings-refusal, bounds-after, openings-workspace-after}
-use Rattle.survival.specs.Rows.{survival-row}
+use Rattle.questions.specs.Survival.{survival-row}
 use Rattle.survival.proofs.PairLaws.{pairs-length, first-of, second-of, pairs-agree}
-use Rattle.survival.proofs.RowLaws.{bound-at}
+use Rattle.questions.proofs.SurvivalLaws.{bound-at}
 
 -- Asking with an opening of 0 to the plan's, in the workspace of survive, is not refused and answers that opening's bounds.
 module _ (h : Head) (row : List ℕ) (room : ℕ) (accepted : Accepted h row) (enough : survival-workspace h ≤ room) where
@@ -51,17 +49,6 @@ module _ (h : Head) (row : List ℕ) (room : ℕ) (accepted : Accepted h row) (e
 pub needed-is : (h : Head) (levels : ℕ) → levels ≡ row-levels (h .opening) (h .months) → 2 * levels ≡ survival-workspace h
 unfolding workspace-needed rows-needed
 needed-is h levels e = rw e (sym (mul-one (2 * row-levels (h .opening) (h .months))))
-
-pub untouched : (n number needed : ℕ) (ws : List ℕ) → n ≡ number → (n ≡ 0 → ⊥) → ws ≡ cleared-after number needed ws
-unfolding cleared-after
-untouched n number needed ws e ne = rw (← e, ne-eqb n 0 ne)
-
-pub cleared-is :
-    (number m needed : ℕ) (ws front : List ℕ) → number ≡ 0 → m ≡ needed → m ≤ length ws → front ≡ replicate (length (take m ws)) 0 →
-    front ++ drop m ws ≡ cleared-after number needed ws
-unfolding cleared-after
-cleared-is number m needed ws front none en fits zeros =
-    rw (none, ← en) (ap (λ (first : List ℕ). first ++ drop m ws) (zeros ∙ ap (λ (n : ℕ). replicate n 0) (length-take-le m ws fits)))
 
 -- the checks one after the other, and what is known where none fits
 module _ (h : Head) (row : List ℕ) (room places : ℕ) where
@@ -89,11 +76,11 @@ module _ (h : Head) (row : List ℕ) (room places : ℕ) where
   unfolding openings-refusal plan-refusal
   fillable e =
       let parts = none-fits-append (plan-checks h row) (room-check (survival-workspace h) room ∷ room-check (bounds-needed h) places ∷ []) (plan-numbered h row) e in
-      let desk = none-fits 10 (ltb room (survival-workspace h)) (room-check (bounds-needed h) places ∷ []) (parts .1) in
+      let workspace = none-fits 10 (ltb room (survival-workspace h)) (room-check (bounds-needed h) places ∷ []) (parts .1) in
       record {
         accepted = parts .0;
-        enough = ltb-false room (survival-workspace h) (desk .0);
-        wide = ltb-false places (bounds-needed h) (none-fits 10 (ltb places (bounds-needed h)) [] (desk .1) .0);
+        enough = ltb-false room (survival-workspace h) (workspace .0);
+        wide = ltb-false places (bounds-needed h) (none-fits 10 (ltb places (bounds-needed h)) [] (workspace .1) .0);
       }
 
   pub unrefused : Fillable → openings-refusal h row room places ≡ 0
@@ -154,7 +141,7 @@ module _ (h : Head) (row ws bounds bounds′ : List ℕ) (is : bounds′ ≡ bou
       (asked-with h row (length ws) (given .accepted) (given .enough) v l)
 
   -- demand 3 of each pair
-  pub pair-encloses : let p = plan-of (opened h v) row in Encloses p (p .chances) (exact p Survive) (getD bounds′ (2 * v) 0) (getD bounds′ (2 * v + 1) 0)
+  pub pair-encloses : let p = plan-of (opened h v) row in EnclosesQuestion p Survive (getD bounds′ (2 * v) 0) (getD bounds′ (2 * v + 1) 0)
   pair-encloses =
       rw (pair-is .0, pair-is .1)
       (enclosure (opened h v) row (opened-accepted h row (given .accepted) v l) Survive)
@@ -168,7 +155,7 @@ pub clauses :
     × ((r ≡ 0 → (v : ℕ) → v ≤ h .opening →
     answer (opening-ask h v) row (length ws) ≡ bounds-answer 0 (getD bounds′ (2 * v) 0) (getD bounds′ (2 * v + 1) 0))
     × (r ≡ 0 → (v : ℕ) → v ≤ h .opening →
-    Encloses (plan-of (opened h v) row) (plan-of (opened h v) row .chances) (exact (plan-of (opened h v) row) Survive) (getD bounds′ (2 * v) 0) (getD bounds′ (2 * v + 1) 0)))))
+    EnclosesQuestion (plan-of (opened h v) row) Survive (getD bounds′ (2 * v) 0) (getD bounds′ (2 * v + 1) 0)))))
 clauses h row ws ws′ bounds bounds′ r e is cleared = (
   e,
   (

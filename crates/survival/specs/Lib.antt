@@ -1,3 +1,2 @@
--- What the contracts cite: Openings for the call, Rows below it.
+-- What the contracts cite.
 pub mod Openings
-pub mod Rows

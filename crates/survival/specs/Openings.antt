@@ -9,8 +9,7 @@ use Rattle.model.specs.Plan.{plan-of, opened}
 use Rattle.model.specs.MonthRule.{Row}
 use Rattle.model.specs.Bounds.{lower, upper}
 use Rattle.model.specs.Refusal.{first, plan-checks, room-check, survival-workspace}
-use Rattle.codec.specs.Answers.{filled-after}
-use Rattle.engine.specs.Answers.{cleared-after}
+use Rattle.model.specs.Memory.{filled-after, cleared-after}
 
 -- asking whether the fund lasts, of the plan with another opening: "asking one by one"
 abbrev pub opening-ask : Head → ℕ → Ask

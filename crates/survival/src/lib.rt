@@ -1,5 +1,4 @@
 // Survival at every opening of a plan, from 0 to its own: one call for the planner's chart.
-pub mod rooms;
 mod rows;
 
 use crate::rows::put_openings;
@@ -10,8 +9,7 @@ ghost use Prim.Native.Nat.{ℕ, _+_, _*_, _≤_};
 ghost use lib.ListN.{length, getD};
 ghost use Rattle.model.specs.declared.Question.the-variants.{Survive};
 ghost use Rattle.model.specs.Plan.{plan-of, opened};
-ghost use Rattle.model.specs.Exact.{exact};
-ghost use Rattle.model.specs.Bounds.{Encloses};
+ghost use Rattle.model.specs.Bounds.{EnclosesQuestion};
 ghost use Rattle.engine.specs.Answers.{bounds-answer, answer};
 ghost use Rattle.survival.specs.Openings.{opening-ask, openings-refusal, bounds-after, openings-workspace-after};
 
@@ -29,8 +27,7 @@ pub fn all_openings(head: Head, row: &[u32], workspace: &mut [u32], bounds: &mut
         ≡ bounds-answer 0 (getD (now (bounds .exit)) (2 * v) 0) (getD (now (bounds .exit)) (2 * v + 1) 0)) ⌝ }
     ensures encloses { λ r.
         ⌜ (r ≡ 0 → (v : ℕ) → v ≤ head .opening →
-        Encloses (plan-of (opened head v) (now (row .entry))) (plan-of (opened head v) (now (row .entry)) .chances)
-        (exact (plan-of (opened head v) (now (row .entry))) Survive) (getD (now (bounds .exit)) (2 * v) 0) (getD (now (bounds .exit)) (2 * v + 1) 0)) ⌝ }
+        EnclosesQuestion (plan-of (opened head v) (now (row .entry))) Survive (getD (now (bounds .exit)) (2 * v) 0) (getD (now (bounds .exit)) (2 * v + 1) 0)) ⌝ }
 {
     let refusal = check(head, row, workspace.len(), bounds.len());
     if refusal != 0 {

@@ -5,15 +5,15 @@ ghost use lib.ListN.{length, take, drop, replicate};
 ghost use Rattle.model.specs.declared.Rounding.the-variants.{Down, Up};
 ghost use Rattle.model.specs.Levels.{row-levels};
 ghost use Rattle.claims.specs.Values.{from-top};
-ghost use Rattle.month_rule.specs.Rows.{PlanTerms};
+ghost use Rattle.month_rule.specs.Months.{PlanTerms};
 ghost use Rattle.survival.specs.Openings.{interleaved};
-ghost use Rattle.survival.specs.Rows.{survival-row};
+ghost use Rattle.questions.specs.Survival.{survival-row};
 use model::GAIN;
 use model::Question;
+use month_rows::rows::fill;
+use month_rows::rows::value_at;
 use month_rule::halves::halves_back;
 use month_rule::halves::last_halves;
-use month_rule::rows::fill;
-use month_rule::rows::value_at;
 use questions::needs::shape_of;
 
 // The values of the two halves at the levels 0 to `top`, which each has at place 0, in pairs.

@@ -11,7 +11,7 @@ use lib.Dec.{ltb}
 use lib.ListN.{length, getD, take, drop, set, take-append-drop, length-append, length-set}
 use lib.Seq.{take-length, length-take-le, take-suc, take-suc-set, drop-drop, drop-set-lt}
 use borrow.Author.Tests.{lt-ltb, le-ltb}
-use Rattle.text.specs.Text.{last-digit, digits, decimal, fields, joined, entry, line, Appended}
+use Rattle.text.specs.Text.{last-digit, digits, decimal, spaced-each, joined, entry, line, Appended}
 
 -- nothing appended
 pub appended-none : (b : List ℕ) (at : ℕ) → at ≤ length b → Appended b at [] b at
@@ -144,8 +144,8 @@ bytes-first word (suc i) h = ap (λ (l : List ℕ). l ++ byte-of word i) (bytes-
 pub bytes-are : (word : List ℕ) → joined (length word) (byte-of word) ≡ word
 bytes-are word = bytes-first word (length word) (omega arith) ∙ take-length word
 
--- an entry is as long as its word and its fields
-pub entry-length : (word numbers : List ℕ) → length (entry word numbers) ≡ length word + length (joined (length numbers) (fields numbers))
+-- an entry is as long as its word and its numbers
+pub entry-length : (word numbers : List ℕ) → length (entry word numbers) ≡ length word + length (joined (length numbers) (spaced-each numbers))
 unfolding entry
 entry-length word numbers = length-append word _
 
@@ -160,7 +160,7 @@ entry-at-most word numbers =
     omega (
       arith,
       entry-length word numbers,
-      joined-at-most (fields numbers) 21 (λ i. omega (arith, decimal-length (getD numbers i 0))) (length numbers),
+      joined-at-most (spaced-each numbers) 21 (λ i. omega (arith, decimal-length (getD numbers i 0))) (length numbers),
     )
 
 pub line-at-most : (word numbers : List ℕ) → length (line word numbers) ≤ length word + length numbers * 21 + 1

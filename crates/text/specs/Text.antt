@@ -32,15 +32,15 @@ joined zero text = []
 joined (suc n) text = joined n text ++ text n
 
 -- a number after a space
-abbrev pub field : ℕ → List ℕ
-field n = ascii " " ++ decimal n
+abbrev pub spaced : ℕ → List ℕ
+spaced n = ascii " " ++ decimal n
 
-abbrev pub fields : List ℕ → ℕ → List ℕ
-fields numbers i = field (getD numbers i 0)
+abbrev pub spaced-each : List ℕ → ℕ → List ℕ
+spaced-each numbers i = spaced (getD numbers i 0)
 
 -- a word and its numbers
 unfoldable pub entry : List ℕ → List ℕ → List ℕ
-entry word numbers = word ++ joined (length numbers) (fields numbers)
+entry word numbers = word ++ joined (length numbers) (spaced-each numbers)
 
 -- "Every later line is a word, its number where it has one, lower, upper"
 unfoldable pub line : List ℕ → List ℕ → List ℕ

@@ -3,7 +3,7 @@ ghost use Prim.Native.Nat.{_+_, _≤_, _<_};
 ghost use mathlib.Core.List.{[], _∷_};
 ghost use lib.ListN.{length};
 ghost use Rattle.text.specs.Text.{Appended};
-ghost use Rattle.text.specs.Text.{decimal as Text·decimal, field as Text·field, entry as Text·entry, line as Text·line};
+ghost use Rattle.text.specs.Text.{decimal as Text·decimal, spaced as Text·spaced, entry as Text·entry, line as Text·line};
 
 fn put_byte(buffer: &mut [u8], at: usize, byte: u8) -> usize
     requires { ⌜ at < length (now buffer) ⌝ }
@@ -38,9 +38,9 @@ fn put_number(buffer: &mut [u8], at: usize, x: u64) -> usize
     put_byte(buffer, end, digit)
 }
 
-fn put_field(buffer: &mut [u8], at: usize, x: u64) -> usize
-    requires { ⌜ at + length (Text·field x) ≤ length (now buffer) ⌝ }
-    ensures { λ r. ⌜ Appended (now (buffer .entry)) at (Text·field x) (now (buffer .exit)) r ⌝ }
+fn put_spaced(buffer: &mut [u8], at: usize, x: u64) -> usize
+    requires { ⌜ at + length (Text·spaced x) ≤ length (now buffer) ⌝ }
+    ensures { λ r. ⌜ Appended (now (buffer .entry)) at (Text·spaced x) (now (buffer .exit)) r ⌝ }
 {
     let end = put_byte(buffer, at, b' ');
     put_number(buffer, end, x)
@@ -54,7 +54,7 @@ pub fn put_entry(buffer: &mut [u8], at: usize, word: &[u8], numbers: &[u64]) -> 
     let mut end = put_word(buffer, at, word);
     let mut i = 0;
     while i < numbers.len() {
-        end = put_field(buffer, end, numbers[i]);
+        end = put_spaced(buffer, end, numbers[i]);
         i += 1;
     }
     end

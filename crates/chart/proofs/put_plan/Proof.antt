@@ -17,10 +17,10 @@ use Rattle.chart.proofs.put_plan.Tie as tie
 abbrev start : tie.After-row-length → tie.Start
 start c = c .before .before .before
 
-abbrev used : tie.After-bounds → tie.After-row-length
+abbrev used : tie.After-blank-bounds → tie.After-row-length
 used c = c .before .before
 
-abbrev lent : tie.After-all-openings → tie.After-bounds
+abbrev lent : tie.After-all-openings → tie.After-blank-bounds
 lent c = c .before .before .before .before
 
 abbrev called : tie.After-put-lines → tie.After-all-openings
@@ -29,11 +29,11 @@ called c = c .before .before .before .before .before
 row-length-requires : tie.Need-row-length-requires
 row-length-requires c κs = accepted-head _ _ (c .before .before .pre .0)
 
-workspace-requires : tie.Need-workspace-requires
-workspace-requires c κs = search needs
+blank-survival-workspace-requires : tie.Need-blank-survival-workspace-requires
+blank-survival-workspace-requires c κs = search needs
 
-bounds-requires : tie.Need-bounds-requires
-bounds-requires c κs = search needs
+blank-bounds-requires : tie.Need-blank-bounds-requires
+blank-bounds-requires c κs = search needs
 
 slice-aggregate-all-openings : tie.Need-slice-aggregate-all-openings
 slice-aggregate-all-openings c = let at = used (c .before) in rw (at .row-length .ensures) (sym (facts _ _ (start at .pre .0) .row-is))
@@ -59,17 +59,17 @@ of-plan c = let a = start c .args in ap (λ n. plan-refusal (a .head) (take n (a
 
 -- the memory that is lent suffices
 nothing-refused :
-    (c : tie.After-bounds) →
+    (c : tie.After-blank-bounds) →
     let at = used c in
-    openings-refusal (start at .args .head) (take (at .row-length .result) (start at .args .row .now)) (length (c .before .workspace .result)) (length (c .bounds .result)) ≡ 0
+    openings-refusal (start at .args .head) (take (at .row-length .result) (start at .args .row .now)) (length (c .before .blank-survival-workspace .result)) (length (c .blank-bounds .result)) ≡ 0
 nothing-refused c =
     let at = used c in
     let head = start at .args .head in
-    unrefused head (take (at .row-length .result) (start at .args .row .now)) (length (c .before .workspace .result)) (length (c .bounds .result))
+    unrefused head (take (at .row-length .result) (start at .args .row .now)) (length (c .before .blank-survival-workspace .result)) (length (c .blank-bounds .result))
     (record {
       accepted = of-plan at;
-      enough = omega (arith, workspace-suffices head (of-head at), c .before .workspace .ensures .0);
-      wide = omega (arith, bounds-suffice head (of-head at), c .bounds .ensures .0);
+      enough = omega (arith, workspace-suffices head (of-head at), c .before .blank-survival-workspace .ensures .1);
+      wide = omega (arith, bounds-suffice head (of-head at), c .blank-bounds .ensures .1);
     })
 
 put-lines-requires : tie.Need-put-lines-requires
@@ -77,7 +77,7 @@ put-lines-requires c κs =
     let call = c .before .before .before .before in
     let room = lent call in
     let from = start (used room) in (
-      omega (arith, bounds-suffice (from .args .head) (of-head (used room)), room .bounds .ensures .0, call .all-openings .kept),
+      omega (arith, bounds-suffice (from .args .head) (of-head (used room)), room .blank-bounds .ensures .1, call .all-openings .kept),
       omega (arith, from .pre .1, mul-le-mul-right line-room (head-facts (from .args .head) (of-head (used room)) .opening-fits)),
     )
 
@@ -90,7 +90,7 @@ returns c =
     let call = called put in
     let room = lent call in
     let at = used room in
-    rw (← at .row-length .ensures, ← lines-are (start at .args .head) (take (at .row-length .result) (start at .args .row .now)) (room .before .workspace .result) (room .bounds .result) _ (call .all-openings .ensures .1 .0) (nothing-refused room))
+    rw (← at .row-length .ensures, ← lines-are (start at .args .head) (take (at .row-length .result) (start at .args .row .now)) (room .before .blank-survival-workspace .result) (room .blank-bounds .result) _ (call .all-openings .ensures .1 .0) (nothing-refused room))
     (put .put-lines .ensures)
 
 pub put-plan-spec : {M : Type 1} → statement M
@@ -98,8 +98,8 @@ put-plan-spec =
     tie.close
     (tie.spec
     row-length-requires
-    workspace-requires
-    bounds-requires
+    blank-survival-workspace-requires
+    blank-bounds-requires
     slice-aggregate-all-openings
     slice-aggregate-all-openings-2
     slice-aggregate-all-openings-3

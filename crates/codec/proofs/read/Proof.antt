@@ -7,12 +7,13 @@ use borrow.Author.Needs.{needs}
 use lib.ListN.{length, drop, length-take}
 use lib.Seq.{length-take-le}
 use Rattle.model.specs.Plan.{row-length}
-use Rattle.model.specs.Format.{head-bits, bits-of, fields, head-of, row-of}
+use Rattle.model.specs.Format.{number-width, head-bits, bits-of, fields, head-of, row-of}
 use Rattle.model.specs.Refusal.{HeadAccepted, read-refusal}
 use Rattle.model.proofs.Facts.{head-facts}
 use Rattle.codec.specs.Answers.{no-head}
-use Rattle.codec.proofs.RefusalLaws.{Readable, readable, row-inside}
-use Rattle.codec.proofs.Answered.{read-as, head-answered, head-refused, filled, kept}
+use Rattle.plan_bits.proofs.RefusalLaws.{Readable, readable, row-inside}
+use Rattle.codec.proofs.Answered.{read-as, head-answered, head-refused}
+use Rattle.model.proofs.MemoryLaws.{filled, kept}
 use Rattle.codec.proofs.read.Statement.{statement}
 use Rattle.codec.proofs.read.Tie as tie
 
@@ -87,7 +88,7 @@ unfolding row-of
 decoded c =
     c .decode .ensures
     ∙ ap
-    (λ n. fields 31 n (drop head-bits (bits-of (bytes-at (refusal-at (measured (lent c)))))))
+    (λ n. fields number-width n (drop head-bits (bits-of (bytes-at (refusal-at (measured (lent c)))))))
     (length-take-le _ _ (slice-relend-prefix-decode (measured (lent c))) ∙ count-is (measured (lent c)))
 
 abbrev stored : tie.After-slice-known2 → tie.After-decode

@@ -10,8 +10,9 @@ use Rattle.model.specs.declared.Head.{Head}
 use Rattle.model.specs.Format.{byte-length}
 use Rattle.model.specs.Refusal.{Accepted, write-refusal}
 use Rattle.model.proofs.Facts.{accepted-head}
-use Rattle.codec.proofs.RefusalLaws.{written}
-use Rattle.codec.proofs.Answered.{written-as, length-answered, length-refused, filled, kept}
+use Rattle.plan_bits.proofs.RefusalLaws.{written}
+use Rattle.codec.proofs.Answered.{written-as, length-answered, length-refused}
+use Rattle.model.proofs.MemoryLaws.{filled, kept}
 use Rattle.codec.proofs.write.Statement.{statement}
 use Rattle.codec.proofs.write.Tie as tie
 

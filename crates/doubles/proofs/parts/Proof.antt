@@ -1,49 +1,32 @@
--- `doubles::parts` meets its contract: `PartLaws` says what the shifted digits of the bits are.
-use mathlib.Core.Path.{sym, subst}
-use native.Mathlib.Omega.{arith}
-use borrow.Author.Needs.{needs}
+-- `doubles::parts` meets its contract: the product is exact.
+use Prim.Native.Nat.{_/_}
+use mathlib.Core.Path.{_≡_, sym, ap, _∙_, subst}
+use mathlib.Core.Bool.{true}
 use lib.Dec.{T}
-use lib.Ieee.{Float, binary64, fits}
-use Rattle.model.specs.Scale.{S}
-use Rattle.doubles.proofs.PartLaws.{no-nan, exponent-fits, less-than-one, shifted, parts-fit}
+use lib.Ieee.{Float, binary64, mul, le, fits, ofBits}
+use lib.Ieee.Positive.{num, den}
+use Rattle.doubles.specs.Doubles.{nought, scale}
+use Rattle.doubles.proofs.RangeLaws.{literal-scale}
+use Rattle.doubles.proofs.PartLaws.{product-within, product-parts}
 use Rattle.doubles.proofs.parts.Statement.{statement}
 use Rattle.doubles.proofs.parts.Tie as tie
-
--- the hop from where the exponent was tested
-abbrev start : tie.Else1 → tie.Start
-start c = c .before
 
 -- what owning a double tells: the format holds it
 held : (c : tie.Start) → T (fits binary64 (c .args .x))
 held c = subst T (sym (c .good .0 .1)) tt
 
-float-to-bits-bits : tie.Need-float-to-bits-bits
-float-to-bits-bits c = no-nan (c .args .x) (held c) (c .pre)
-
 returns : tie.Need-returns
-returns c = less-than-one (c .before .args .x) (held (c .before)) (c .before .pre) (c .if1 .taken)
+returns c =
+    let x = c .before .args .x in
+    let product = mul binary64 x (ofBits binary64 0x41d0_0000_0000_0000) in
+    let down : c .rounded-down .result ≡ num product / den product = c .rounded-down .ensures in
+    down ∙ ap (λ (y : Float). num (mul binary64 x y) / den (mul binary64 x y)) literal-scale ∙ product-parts x (held (c .before)) (c .before .pre)
 
-add-digits : tie.Need-add-digits
-add-digits c = search needs
-
-sub-result : tie.Need-sub-result
-sub-result c = omega (arith, exponent-fits (start c .args .x) (held (start c)) (start c .pre))
-
-shr-result : tie.Need-shr-result
-shr-result c = search needs
-
--- the digits as they are shifted
-abbrev at : tie.Else1 → Float
-at c = start c .args .x
-
-cast-result : tie.Need-cast-result
-unfolding S
-cast-result c = omega (arith, shifted (at c) (held (start c)) (start c .pre) (c .if1 .left), parts-fit (at c) (start c .pre))
-
-returns-2 : tie.Need-returns-2
-returns-2 c = shifted (at c) (held (start c)) (start c .pre) (c .if1 .left)
+rounded-down-requires : tie.Need-rounded-down-requires
+rounded-down-requires c κs =
+    let x = c .args .x in
+    subst (λ (y : Float). (le nought (mul binary64 x y) ≡ true) × (le (mul binary64 x y) scale ≡ true)) (sym literal-scale)
+    (product-within x (held c) (c .pre))
 
 pub parts-spec : {M : Type 1} → statement M
-parts-spec =
-    tie.close
-    (tie.spec float-to-bits-bits returns add-digits sub-result shr-result cast-result returns-2)
+parts-spec = tie.close (tie.spec rounded-down-requires returns)

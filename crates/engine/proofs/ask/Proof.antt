@@ -17,7 +17,7 @@ use Rattle.model.specs.Refusal.{outside, workspace-needed, ask-refusal}
 use Rattle.model.proofs.Facts.{facts, accepted-head}
 use Rattle.model.proofs.Rooms.{rows-few}
 use Rattle.model.proofs.Theorems.{enclosure}
-use Rattle.month_rule.specs.Shapes.{rows-size}
+use Rattle.month_rows.specs.Shapes.{rows-size}
 use Rattle.engine.specs.Answers.{answer}
 use Rattle.engine.specs.declared.bounds.LastRows.the-variants.{Placed}
 use Rattle.engine.specs.LastRows.{LastFits, opening-value}

@@ -13,7 +13,7 @@ use Rattle.model.specs.Bounds.{ruin-bound}
 use Rattle.model.specs.Refusal.{outside, month-outside, survival-workspace, ruin-refusal}
 use Rattle.model.proofs.Facts.{Facts, facts, accepted-head, horizon-is}
 use Rattle.model.proofs.Theorems.{ruin-enclosure}
-use Rattle.month_rule.specs.Shapes.{rows-size}
+use Rattle.month_rows.specs.Shapes.{rows-size}
 use Rattle.engine.specs.declared.bounds.LastRows.the-variants.{Ruin}
 use Rattle.questions.specs.Needs.{shape-of}
 use Rattle.engine.specs.Answers.{ruin-answer}

@@ -15,8 +15,8 @@ used c = c .before .before
 row-length-requires : tie.Need-row-length-requires
 row-length-requires c κs = accepted-head _ _ (c .before .pre)
 
-workspace-requires : tie.Need-workspace-requires
-workspace-requires c κs = search needs
+blank-survival-workspace-requires : tie.Need-blank-survival-workspace-requires
+blank-survival-workspace-requires c κs = search needs
 
 slice-aggregate-least : tie.Need-slice-aggregate-least
 slice-aggregate-least c = rw (used c .row-length .ensures) (sym (facts _ _ (start (used c) .pre) .row-is))
@@ -31,14 +31,14 @@ returns : tie.Need-returns
 returns c =
     let done = c .before in
     let lent = done .before .before in
-    rw (← used lent .row-length .ensures, lent .before .workspace .ensures .0) (done .least .ensures .0)
+    rw (← used lent .row-length .ensures, lent .before .blank-survival-workspace .ensures .1) (done .least .ensures .0)
 
 pub least-of-spec : {M : Type 1} → statement M
 least-of-spec =
     tie.close
     (tie.spec
     row-length-requires
-    workspace-requires
+    blank-survival-workspace-requires
     slice-aggregate-least
     slice-aggregate-least-2
     least-requires

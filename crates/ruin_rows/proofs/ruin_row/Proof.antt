@@ -6,7 +6,7 @@ use Prim.Native.Nat.{_+_, _*_, _-_, _≤_}
 use native.Mathlib.Nat.{zero-add}
 use Rattle.model.specs.Scale.{S}
 use Rattle.model.specs.Levels.{gain}
-use Rattle.month_rule.proofs.RowLaws.{Rewriting, rewriting-start, rewriting-turn}
+use Rattle.month_rows.proofs.RowLaws.{Rewriting, rewriting-start, rewriting-turn}
 use Rattle.ruin_rows.proofs.RuinLaws.{ruin-places, product-fits, ruin-value, value-fits}
 use Rattle.ruin_rows.proofs.ruin_row.Statement.{statement}
 use Rattle.ruin_rows.proofs.ruin_row.Tie as tie

@@ -10,7 +10,8 @@ use Rattle.model.specs.Refusal.{survival-workspace}
 use Rattle.model.proofs.Facts.{Facts, facts, accepted-head}
 use Rattle.engine.proofs.AnswerLaws.{terms-lent}
 use Rattle.survival.specs.Openings.{openings-refusal}
-use Rattle.survival.proofs.Theorems.{needed-is, untouched, cleared-is, Fillable, fillable, bounds-are, unfilled, filled-is, clauses}
+use Rattle.survival.proofs.Theorems.{needed-is, Fillable, fillable, bounds-are, unfilled, filled-is, clauses}
+use Rattle.model.proofs.MemoryLaws.{untouched, cleared-is}
 use Rattle.survival.proofs.all_openings.Statement.{statement}
 use Rattle.survival.proofs.all_openings.Tie as tie
 

@@ -3,13 +3,13 @@ use native.Mathlib.Omega.{arith}
 use borrow.Author.Needs.{needs}
 use Prim.Native.Nat.{_-_}
 use lib.ListN.{length}
-use Rattle.text.specs.Text.{fields, entry}
+use Rattle.text.specs.Text.{spaced-each, entry}
 use Rattle.text.proofs.TextLaws.{appended-more, Appending, appending-start, appending-room, appending-turn, appending-done, entry-length}
 use Rattle.text.proofs.put_entry.Statement.{statement}
 use Rattle.text.proofs.put_entry.Tie as tie
 
 abbrev Inv-loop : tie.InvT-loop
-Inv-loop buffer₀ at word numbers end₀ i₀ buffer end i = Appending (fields numbers) (length numbers) buffer₀ end₀ buffer end i
+Inv-loop buffer₀ at word numbers end₀ i₀ buffer end i = Appending (spaced-each numbers) (length numbers) buffer₀ end₀ buffer end i
 
 abbrev μ-loop : tie.MeasureT-loop
 μ-loop buffer₀ at word numbers end₀ i₀ buffer end i = length numbers - i
@@ -30,14 +30,14 @@ put-word-requires c κs = omega (arith, entry-length (start c .args .word .now) 
 loop-holds : tie.Need-loop-holds Inv-loop μ-loop
 loop-holds c = appending-start (search needs)
 
-mul-put-field : tie.Need-mul-put-field Inv-loop μ-loop
-mul-put-field c = search needs
+mul-put-spaced : tie.Need-mul-put-spaced Inv-loop μ-loop
+mul-put-spaced c = search needs
 
-shared-slice-read-put-field : tie.Need-shared-slice-read-put-field Inv-loop μ-loop
-shared-slice-read-put-field c = search needs
+shared-slice-read-put-spaced : tie.Need-shared-slice-read-put-spaced Inv-loop μ-loop
+shared-slice-read-put-spaced c = search needs
 
-put-field-requires : tie.Need-put-field-requires Inv-loop μ-loop
-put-field-requires c κs =
+put-spaced-requires : tie.Need-put-spaced-requires Inv-loop μ-loop
+put-spaced-requires c κs =
     let at-word = word (at-loop c) in
     let args = start (at-word .before) .args in
     appending-room (at-loop c .loop .inv) (search needs)
@@ -52,7 +52,7 @@ loop-less c = search needs
 loop-again : tie.Need-loop-again Inv-loop μ-loop
 loop-again c =
     let put = c .before .before in
-    appending-turn (at-loop (put .before) .loop .inv) (search needs) (put .put-field .kept .0) (put .put-field .ensures)
+    appending-turn (at-loop (put .before) .loop .inv) (search needs) (put .put-spaced .kept .0) (put .put-spaced .ensures)
 
 same-length : tie.Need-same-length Inv-loop μ-loop
 same-length c = search needs
@@ -69,9 +69,9 @@ put-entry-spec =
     μ-loop
     put-word-requires
     loop-holds
-    mul-put-field
-    shared-slice-read-put-field
-    put-field-requires
+    mul-put-spaced
+    shared-slice-read-put-spaced
+    put-spaced-requires
     add-i
     loop-less
     loop-again

@@ -6,7 +6,7 @@ use lib.ListN.{length}
 use Rattle.model.specs.Scale.{S}
 use Rattle.model.specs.Sums.{sum}
 use Rattle.model.specs.FilledSizes.{filled-count}
-use Rattle.claims.specs.Listing.{product}
+use Rattle.claims.specs.Listing.{sum-term}
 use Rattle.claims.proofs.SummingLaws.{Parted, parted, sizes-in, whole-sum, whole-fits}
 use Rattle.claims.proofs.sum.claim_sum.Statement.{statement}
 use Rattle.claims.proofs.sum.claim_sum.Tie as tie
@@ -45,7 +45,7 @@ parts c =
 fits :
     (c : tie.After-lesser2) →
     let a = start (range c) .args in
-    sum (min (length (a .after .now)) (length (a .severity .now))) (product (a .severity .now) (a .after .now)) ≤ S * S
+    sum (min (length (a .after .now)) (length (a .severity .now))) (sum-term (a .severity .now) (a .after .now)) ≤ S * S
 fits c = let from = start (range c) in whole-fits (from .args .severity .now) (from .args .after .now) (from .pre .1 .0) (from .pre .0)
 
 listed-sum-requires : tie.Need-listed-sum-requires
@@ -62,7 +62,7 @@ dense-sum-requires c κs =
 together :
     (c : tie.After-dense-sum) →
     let a = start (range (divided (listed c))) .args in
-    (listed c .listed-sum .result .sum + c .dense-sum .result .sum ≡ sum (min (length (a .after .now)) (length (a .severity .now))) (product (a .severity .now) (a .after .now)))
+    (listed c .listed-sum .result .sum + c .dense-sum .result .sum ≡ sum (min (length (a .after .now)) (length (a .severity .now))) (sum-term (a .severity .now) (a .after .now)))
     × (listed c .listed-sum .result .products + c .dense-sum .result .products ≡ filled-count (a .severity .now) (length (a .after .now) + 1))
 together c =
     let all = parts (divided (listed c)) in (

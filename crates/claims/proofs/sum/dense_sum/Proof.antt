@@ -6,13 +6,13 @@ use native.Mathlib.Omega.{arith}
 use lib.ListN.{length}
 use Rattle.model.specs.Scale.{S}
 use Rattle.model.specs.Plan.{nth}
-use Rattle.claims.specs.Listing.{product}
+use Rattle.claims.specs.Listing.{sum-term}
 use Rattle.claims.proofs.SummingLaws.{DownSumming, down-summing-turn, down-summing-end}
 use Rattle.claims.proofs.sum.dense_sum.Statement.{statement}
 use Rattle.claims.proofs.sum.dense_sum.Tie as tie
 
 abbrev Inv-loop : tie.InvT-loop
-Inv-loop severity after most sum₀ products₀ x₀ sum products x = DownSumming (product severity after) most sum products x
+Inv-loop severity after most sum₀ products₀ x₀ sum products x = DownSumming (sum-term severity after) most sum products x
 
 abbrev μ-loop : tie.MeasureT-loop
 μ-loop severity after most sum₀ products₀ x₀ sum products x = x
@@ -68,14 +68,14 @@ added :
     let at-loop = turn (weight c) .before in
     let a = start at-loop .args in
     let sum = at-loop .loop .sum + weight c .wide .result * c .wide2 .result in
-    (sum ≤ S * S) × DownSumming (product (a .severity .now) (a .after .now)) (a .most) sum (at-loop .loop .products + 1) (at-loop .loop .x - 1)
+    (sum ≤ S * S) × DownSumming (sum-term (a .severity .now) (a .after .now)) (a .most) sum (at-loop .loop .products + 1) (at-loop .loop .x - 1)
 unfolding nth
 added c =
     let at-turn = turn (weight c) in
     let loop = at-turn .before .loop in
     let from = start (at-turn .before) in
     let more =
-    down-summing-turn (product (from .args .severity .now) (from .args .after .now)) (from .args .most) (loop .sum) (loop .products) (loop .x) _
+    down-summing-turn (sum-term (from .args .severity .now) (from .args .after .now)) (from .args .most) (loop .sum) (loop .products) (loop .x) _
     (at-turn .loop-test .taken) (ap₂ (λ (w v : ℕ). w * v) (weight c .wide .ensures) (c .wide2 .ensures)) (loop .inv) in
     (le-trans (more .0) (from .pre .1), more .1)
 
@@ -100,7 +100,7 @@ returns : tie.Need-returns Inv-loop μ-loop
 returns c =
     let at-loop = c .before in
     let a = start at-loop .args in
-    down-summing-end (product (a .severity .now) (a .after .now)) (a .most) (at-loop .loop .sum) (at-loop .loop .products) (at-loop .loop .x)
+    down-summing-end (sum-term (a .severity .now) (a .after .now)) (a .most) (at-loop .loop .sum) (at-loop .loop .products) (at-loop .loop .x)
     (c .loop-test .left) (at-loop .loop .inv)
 
 pub dense-sum-spec : {M : Type 1} → statement M

@@ -4,13 +4,13 @@ use native.Mathlib.Nat.{zero-add, le-trans}
 use native.Mathlib.Omega.{arith}
 use lib.ListN.{length, getD}
 use Rattle.model.specs.Scale.{S}
-use Rattle.claims.specs.Listing.{product}
+use Rattle.claims.specs.Listing.{sum-term}
 use Rattle.claims.proofs.SummingLaws.{product-read, ListSumming, list-summing-turn, list-summing-end}
 use Rattle.claims.proofs.sum.listed_sum.Statement.{statement}
 use Rattle.claims.proofs.sum.listed_sum.Tie as tie
 
 abbrev Inv-loop : tie.InvT-loop
-Inv-loop severity sizes after sum₀ k₀ sum k = ListSumming (product severity after) sizes sum k
+Inv-loop severity sizes after sum₀ k₀ sum k = ListSumming (sum-term severity after) sizes sum k
 
 abbrev μ-loop : tie.MeasureT-loop
 μ-loop severity sizes after sum₀ k₀ sum k = length sizes - k
@@ -71,14 +71,14 @@ added :
     let at-loop = turn (weight c) .before in
     let a = start at-loop .args in
     let sum = at-loop .loop .sum + weight c .wide .result * c .wide2 .result in
-    (sum ≤ S * S) × ListSumming (product (a .severity .now) (a .after .now)) (a .sizes .now) sum (at-loop .loop .k + 1)
+    (sum ≤ S * S) × ListSumming (sum-term (a .severity .now) (a .after .now)) (a .sizes .now) sum (at-loop .loop .k + 1)
 added c =
     let at-turn = turn (weight c) in
     let loop = at-turn .before .loop in
     let from = start (at-turn .before) in
     let a = from .args in
     let more =
-    list-summing-turn (product (a .severity .now) (a .after .now)) (a .sizes .now) (loop .sum) (loop .k) _ (at-turn .loop-test .taken)
+    list-summing-turn (sum-term (a .severity .now) (a .after .now)) (a .sizes .now) (loop .sum) (loop .k) _ (at-turn .loop-test .taken)
     (product-read (a .severity .now) (a .after .now) _ _ _ (inside at-turn .0) (weight c .wide .ensures) (c .wide2 .ensures)) (loop .inv) in
     (le-trans (more .0) (from .pre .1), more .1)
 
@@ -103,7 +103,7 @@ returns : tie.Need-returns Inv-loop μ-loop
 returns c =
     let at-loop = c .before in
     let a = start at-loop .args in
-    list-summing-end (product (a .severity .now) (a .after .now)) (a .sizes .now) (at-loop .loop .sum) (at-loop .loop .k) (c .loop-test .left) (at-loop .loop .inv)
+    list-summing-end (sum-term (a .severity .now) (a .after .now)) (a .sizes .now) (at-loop .loop .sum) (at-loop .loop .k) (c .loop-test .left) (at-loop .loop .inv)
 
 pub listed-sum-spec : {M : Type 1} → statement M
 listed-sum-spec =

@@ -8,7 +8,7 @@ use lib.ListN.{drop, replicate, length-take}
 use lib.Seq.{length-take-le}
 use Rattle.model.specs.declared.Rounding.the-variants.{Down, Up}
 use Rattle.model.proofs.Facts.{Facts, facts}
-use Rattle.month_rule.specs.Shapes.{rows-size}
+use Rattle.month_rows.specs.Shapes.{rows-size}
 use Rattle.engine.proofs.AnswerLaws.{answer-worked, terms-lent, levels-fit, last-lent, value-lent}
 use Rattle.engine.proofs.answers.work_out.Statement.{statement}
 use Rattle.engine.proofs.answers.work_out.Tie as tie

@@ -8,8 +8,9 @@ use lib.Seq.{getD-drop, getD-take}
 use borrow.Author.Needs.{needs}
 use Rattle.model.specs.declared.Rounding.the-variants.{Down, Up}
 use Rattle.model.specs.Levels.{gain, largest-level}
-use Rattle.month_rule.specs.Shapes.{rows-size, HalvesIn}
-use Rattle.month_rule.proofs.ManyRows.{row-fits}
+use Rattle.month_rows.specs.Shapes.{rows-size}
+use Rattle.month_rule.specs.Months.{HalvesIn}
+use Rattle.month_rows.proofs.ManyRows.{row-fits}
 use Rattle.month_rule.proofs.AllMonths.{taken-value}
 use Rattle.engine.specs.LastRows.{last-rows}
 use Rattle.engine.proofs.AnswerLaws.{some-row}

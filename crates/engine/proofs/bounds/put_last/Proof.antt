@@ -4,7 +4,7 @@ use Prim.Native.Nat.{_*_}
 use borrow.Author.Needs.{needs}
 use lib.ListN.{take, drop}
 use Rattle.model.specs.declared.Rounding.the-variants.{Down, Up}
-use Rattle.month_rule.specs.Shapes.{rows-size}
+use Rattle.month_rows.specs.Shapes.{rows-size}
 use Rattle.ruin_rows.specs.Terms.{RuinTerms}
 use Rattle.engine.proofs.AnswerLaws.{some-row, placed-in, ruin-terms, one-row, ruin-in}
 use Rattle.engine.proofs.bounds.put_last.Statement.{statement}

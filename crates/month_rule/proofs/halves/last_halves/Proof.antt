@@ -3,7 +3,7 @@ use native.Mathlib.Omega.{arith}
 use lib.ListN.{length-take}
 use lib.Seq.{length-take-le}
 use borrow.Author.Needs.{needs}
-use Rattle.month_rule.specs.Shapes.{rows-size}
+use Rattle.month_rows.specs.Shapes.{rows-size}
 use Rattle.month_rule.proofs.HalfLaws.{first-half, second-half, parts-both}
 use Rattle.month_rule.proofs.halves.last_halves.Statement.{statement}
 use Rattle.month_rule.proofs.halves.last_halves.Tie as tie

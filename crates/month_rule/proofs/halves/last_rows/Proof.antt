@@ -4,7 +4,7 @@ use native.Mathlib.Omega.{arith}
 use lib.ListN.{length}
 use Rattle.model.specs.Scale.{S}
 use borrow.Author.Needs.{needs}
-use Rattle.month_rule.proofs.ManyRows.{row-fits}
+use Rattle.month_rows.proofs.ManyRows.{row-fits}
 use Rattle.month_rule.proofs.HalfLaws.{last-rows-at, last-rows-parts}
 use Rattle.month_rule.proofs.halves.last_rows.Statement.{statement}
 use Rattle.month_rule.proofs.halves.last_rows.Tie as tie

@@ -6,7 +6,7 @@ use native.Mathlib.Omega.{arith}
 use borrow.Rule.Slice.PartMut.{midOf}
 use lib.ListN.{length, drop, length-take}
 use borrow.Author.Needs.{needs}
-use Rattle.month_rule.specs.Shapes.{rows-size}
+use Rattle.month_rows.specs.Shapes.{rows-size}
 use Rattle.month_rule.proofs.HalfLaws.{lower-rows, upper-rows, second-lent, first-half, second-half}
 use Rattle.month_rule.proofs.halves.listed_halves_back.Statement.{statement}
 use Rattle.month_rule.proofs.halves.listed_halves_back.Tie as tie

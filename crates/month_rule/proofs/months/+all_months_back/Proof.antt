@@ -10,10 +10,11 @@ use lib.Seq.{length-take-le}
 use Rattle.model.specs.Levels.{gain, largest-level}
 use Rattle.model.proofs.LevelLaws.{level-next, level-from}
 use Rattle.claims.specs.Listing.{Listing}
-use Rattle.month_rule.specs.Rows.{MonthTerms, PlanTerms}
-use Rattle.month_rule.specs.Shapes.{RowsIn}
-use Rattle.month_rule.proofs.RowLaws.{parts-part}
-use Rattle.month_rule.proofs.ManyRows.{row-fits, rows-in-again}
+use Rattle.month_rows.specs.Rows.{MonthTerms}
+use Rattle.month_rule.specs.Months.{PlanTerms}
+use Rattle.month_rows.specs.Shapes.{RowsIn}
+use Rattle.month_rows.proofs.RowLaws.{parts-part}
+use Rattle.month_rows.proofs.ManyRows.{row-fits, rows-in-again}
 use Rattle.month_rule.proofs.AllMonths.{taken-back-none, taken-back-more, no-chances, first-and-rest}
 use Rattle.month_rule.proofs.months.all_months_back.Reads as all-months-back
 use Rattle.month_rule.proofs.months.all_months_back.Kinds as all-months-back-kinds

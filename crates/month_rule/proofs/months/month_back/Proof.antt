@@ -1,8 +1,9 @@
 -- `month_back` meets its contract: the rows lie forbidden, and go back (`month-forbidden`).
 use mathlib.Core.Path.{_∙_}
 use borrow.Author.Needs.{needs}
-use Rattle.month_rule.specs.Shapes.{values-in, rule-by}
-use Rattle.month_rule.proofs.ManyRows.{rows-in-again, forbidden-levels}
+use Rattle.month_rows.specs.Shapes.{values-in}
+use Rattle.month_rule.specs.Months.{rule-by}
+use Rattle.month_rows.proofs.ManyRows.{rows-in-again, forbidden-levels}
 use Rattle.month_rule.proofs.AllMonths.{month-forbidden}
 use Rattle.month_rule.proofs.months.month_back.Statement.{statement}
 use Rattle.month_rule.proofs.months.month_back.Tie as tie

@@ -8,14 +8,14 @@ use Rattle.report_lines.proofs.lines.put_bounds.Tie as tie
 abbrev survive : tie.After-put-line → tie.After-enum-told
 survive c = c .before .before .before .before
 
-abbrev both : tie.After-put-line2 → tie.After-known-told
-both c = c .before .before .before .before
+abbrev both : tie.After-put-numbered → tie.After-known-told
+both c = c .before .before .before
 
-abbrev high : tie.After-put-line3 → tie.After-known-told2
-high c = c .before .before .before .before
+abbrev high : tie.After-put-numbered2 → tie.After-known-told2
+high c = c .before .before .before
 
-abbrev low : tie.After-put-line4 → tie.After-known-told3
-low c = c .before .before .before .before
+abbrev low : tie.After-put-numbered3 → tie.After-known-told3
+low c = c .before .before .before
 
 enum-told : tie.Need-enum-told
 enum-told c = search needs
@@ -32,38 +32,29 @@ put-line-requires c κs = line-fits _ _ _ _ (search needs)
 enum-known-question : tie.Need-enum-known-question
 enum-known-question c = search needs
 
-slice-aggregate-put-line-3 : tie.Need-slice-aggregate-put-line-3
-slice-aggregate-put-line-3 c = search needs
+slice-aggregate-put-numbered : tie.Need-slice-aggregate-put-numbered
+slice-aggregate-put-numbered c = search needs
 
-slice-aggregate-put-line-4 : tie.Need-slice-aggregate-put-line-4
-slice-aggregate-put-line-4 c = search needs
-
-put-line-requires-2 : tie.Need-put-line-requires-2
-put-line-requires-2 c κs = line-fits _ _ _ _ (search needs)
+put-numbered-requires : tie.Need-put-numbered-requires
+put-numbered-requires c κs = search needs
 
 enum-known-question-2 : tie.Need-enum-known-question-2
 enum-known-question-2 c = search needs
 
-slice-aggregate-put-line-5 : tie.Need-slice-aggregate-put-line-5
-slice-aggregate-put-line-5 c = search needs
+slice-aggregate-put-numbered-2 : tie.Need-slice-aggregate-put-numbered-2
+slice-aggregate-put-numbered-2 c = search needs
 
-slice-aggregate-put-line-6 : tie.Need-slice-aggregate-put-line-6
-slice-aggregate-put-line-6 c = search needs
-
-put-line-requires-3 : tie.Need-put-line-requires-3
-put-line-requires-3 c κs = line-fits _ _ _ _ (search needs)
+put-numbered-requires-2 : tie.Need-put-numbered-requires-2
+put-numbered-requires-2 c κs = search needs
 
 enum-known-question-3 : tie.Need-enum-known-question-3
 enum-known-question-3 c = search needs
 
-slice-aggregate-put-line-7 : tie.Need-slice-aggregate-put-line-7
-slice-aggregate-put-line-7 c = search needs
+slice-aggregate-put-numbered-3 : tie.Need-slice-aggregate-put-numbered-3
+slice-aggregate-put-numbered-3 c = search needs
 
-slice-aggregate-put-line-8 : tie.Need-slice-aggregate-put-line-8
-slice-aggregate-put-line-8 c = search needs
-
-put-line-requires-4 : tie.Need-put-line-requires-4
-put-line-requires-4 c κs = line-fits _ _ _ _ (search needs)
+put-numbered-requires-3 : tie.Need-put-numbered-requires-3
+put-numbered-requires-3 c κs = search needs
 
 same-length : tie.Need-same-length
 same-length c = search needs
@@ -79,7 +70,7 @@ same-length-2 c = search needs
 returns-2 : tie.Need-returns-2
 returns-2 c =
     let put = c .before .before in
-    rw (both put .before .question .given .1) (put .put-line2 .ensures)
+    rw (both put .before .question .given .1) (put .put-numbered .ensures)
 
 same-length-3 : tie.Need-same-length-3
 same-length-3 c = search needs
@@ -87,7 +78,7 @@ same-length-3 c = search needs
 returns-3 : tie.Need-returns-3
 returns-3 c =
     let put = c .before .before in
-    rw (high put .before .question2 .given .1) (put .put-line3 .ensures)
+    rw (high put .before .question2 .given .1) (put .put-numbered2 .ensures)
 
 same-length-4 : tie.Need-same-length-4
 same-length-4 c = search needs
@@ -95,7 +86,7 @@ same-length-4 c = search needs
 returns-4 : tie.Need-returns-4
 returns-4 c =
     let put = c .before .before in
-    rw (low put .before .question3 .given .1) (put .put-line4 .ensures)
+    rw (low put .before .question3 .given .1) (put .put-numbered3 .ensures)
 
 pub put-bounds-spec : {M : Type 1} → statement M
 put-bounds-spec =
@@ -106,17 +97,14 @@ put-bounds-spec =
     slice-aggregate-put-line-2
     put-line-requires
     enum-known-question
-    slice-aggregate-put-line-3
-    slice-aggregate-put-line-4
-    put-line-requires-2
+    slice-aggregate-put-numbered
+    put-numbered-requires
     enum-known-question-2
-    slice-aggregate-put-line-5
-    slice-aggregate-put-line-6
-    put-line-requires-3
+    slice-aggregate-put-numbered-2
+    put-numbered-requires-2
     enum-known-question-3
-    slice-aggregate-put-line-7
-    slice-aggregate-put-line-8
-    put-line-requires-4
+    slice-aggregate-put-numbered-3
+    put-numbered-requires-3
     same-length
     returns
     same-length-2

@@ -11,10 +11,11 @@ use Rattle.model.specs.Levels.{gain, largest-level}
 use Rattle.model.specs.MonthRule.{all-placed}
 use Rattle.model.specs.Refusal.{outside}
 use Rattle.claims.specs.Values.{from-top}
-use Rattle.month_rule.specs.Shapes.{values-in, HalvesIn, TakenBack}
-use Rattle.survival.specs.Rows.{survival-row}
+use Rattle.month_rows.specs.Shapes.{values-in}
+use Rattle.month_rule.specs.Months.{HalvesIn, TakenBack}
+use Rattle.questions.specs.Survival.{survival-row}
 use Rattle.survival.proofs.PairLaws.{pairs-agree}
-use Rattle.survival.proofs.RowLaws.{OneRow, one-row, back-is}
+use Rattle.questions.proofs.SurvivalLaws.{OneRow, one-row, back-is}
 use Rattle.survival.proofs.rows.put_openings.Statement.{statement}
 use Rattle.survival.proofs.rows.put_openings.Tie as tie
 

@@ -1,0 +1,3 @@
+-- What the contracts cite: Answers for the call, Counts for the functions below it.
+pub mod Counts
+pub mod Answers

@@ -1,5 +1,0 @@
--- The laws that the functions' proofs cite.
-pub mod LeastLaws
-pub mod WalkLaws
-pub mod SearchLaws
-pub mod Theorems

@@ -1,0 +1,4 @@
+-- The laws of a sheet.
+pub mod MinusZero
+pub mod Theorems
+pub mod Worked

@@ -1,0 +1,3 @@
+-- The laws of chances and weights.
+pub mod RuleLaws
+pub mod GuardLaws

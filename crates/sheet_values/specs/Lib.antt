@@ -1,0 +1,3 @@
+pub mod Sheet
+pub mod Rules
+pub mod Terms
