@@ -8,9 +8,9 @@
 //!   rustc -O docs/src/baseline.rs -o OUT
 //!
 //! Written from these documents alone, not from the engine or its definitions. It has the rows and the order of work of these documents: two rows
-//! of u + n + 1 numbers for an answer, k + 1 times that for both k, each replaced in place month by month, from the highest level down, and the
-//! claim sum from the largest size down. The least opening takes one walk over the lower row for all openings and, for the one found, one over
-//! the upper row; all openings take one walk over each row.
+//! of u + c × n + 1 numbers for an answer, k + 1 times that for both k, each replaced in place month by month, from the highest level down, and
+//! the claim sum from the largest size down. The least opening takes one walk over the lower row for all openings and, for the one found, one
+//! over the upper row; all openings take one walk over each row.
 use std::fmt::{Display, Write as _};
 use std::io::{self, Read, Write as _};
 use std::{env, iter};
@@ -19,14 +19,17 @@ const S: u64 = 1 << 30;
 const MONTHS: usize = 120;
 const OPENING: usize = 200;
 const SIZES: usize = 320;
+const INCOME: usize = 8;
+const LARGEST_LEVEL: usize = 320;
 const CLAIMS: usize = 24;
 
-/// The widths in bits of n, u and m, and of each number of the row.
-const HEAD_BITS: [usize; 3] = [7, 8, 9];
+/// The widths in bits of n, u, m and c, and of each number of the row.
+const HEAD_BITS: [usize; 4] = [7, 8, 9, 4];
 const NUMBER_BITS: usize = 31;
 
 struct Plan {
     opening: usize,
+    income: usize,
     chances: Vec<u32>,
     weights: Vec<u32>,
     /// The weights of the sizes below the first empty one, the largest size first.
@@ -36,12 +39,22 @@ struct Plan {
 }
 
 impl Plan {
-    fn new(opening: usize, chances: &[u32], weights: &[u32]) -> Plan {
+    fn new(opening: usize, income: usize, chances: &[u32], weights: &[u32]) -> Plan {
         let below = weights.iter().take_while(|&&weight| weight > 0).count();
         let run = weights[..below].iter().rev().copied().collect();
         let above = (below + 1..=weights.len()).rev().map(|x| (x, weights[x - 1]));
         let listed = above.filter(|&(_, weight)| weight > 0).collect();
-        Plan { opening, chances: chances.to_vec(), weights: weights.to_vec(), run, listed }
+        Plan { opening, income, chances: chances.to_vec(), weights: weights.to_vec(), run, listed }
+    }
+
+    /// The highest level at the end of this many months.
+    fn top(&self, months: usize) -> usize {
+        self.opening + self.income * months
+    }
+
+    /// How many levels a row has, 0 to the largest.
+    fn levels(&self) -> usize {
+        self.top(self.chances.len()) + 1
     }
 }
 
@@ -75,7 +88,7 @@ impl Bits<'_> {
     }
 }
 
-fn check_head(n: usize, u: usize, m: usize) -> Result<(), u32> {
+fn check_head([n, u, m, c]: [usize; 4]) -> Result<(), u32> {
     if n > MONTHS {
         return Err(2);
     }
@@ -85,11 +98,17 @@ fn check_head(n: usize, u: usize, m: usize) -> Result<(), u32> {
     if m == 0 || m > SIZES {
         return Err(4);
     }
+    if c == 0 || c > INCOME {
+        return Err(16);
+    }
+    if u + c * n > LARGEST_LEVEL {
+        return Err(17);
+    }
     Ok(())
 }
 
-fn check_tail(n: usize, u: usize, m: usize, over: u64) -> Result<(), u32> {
-    if over > 0 && m + 1 < u + n {
+fn check_tail([n, u, m, c]: [usize; 4], over: u64) -> Result<(), u32> {
+    if over > 0 && m + 1 < u + c * n {
         return Err(9);
     }
     Ok(())
@@ -106,8 +125,9 @@ fn read(bytes: &[u8]) -> Result<Plan, u32> {
         return Err(1);
     }
     let mut bits = Bits { bytes, at: 0 };
-    let [n, u, m] = HEAD_BITS.map(|width| bits.take(width) as usize);
-    check_head(n, u, m)?;
+    let head = HEAD_BITS.map(|width| bits.take(width) as usize);
+    check_head(head)?;
+    let [n, u, m, c] = head;
     if bytes.len() != plan_bytes(n, m) {
         return Err(5);
     }
@@ -121,12 +141,12 @@ fn read(bytes: &[u8]) -> Result<Plan, u32> {
     if row[n..].iter().sum::<u64>() != S {
         return Err(8);
     }
-    check_tail(n, u, m, row[n + m])?;
+    check_tail(head, row[n + m])?;
     let row: Vec<u32> = row.iter().map(|&x| x as u32).collect();
-    Ok(Plan::new(u, &row[..n], &row[n..n + m]))
+    Ok(Plan::new(u, c, &row[..n], &row[n..n + m]))
 }
 
-fn write(head: [usize; 3], row: &[u64]) -> Vec<u8> {
+fn write(head: [usize; 4], row: &[u64]) -> Vec<u8> {
     let head = head.map(|x| x as u64);
     let widths = HEAD_BITS.iter().chain(iter::repeat(&NUMBER_BITS));
     let mut bits = Vec::new();
@@ -143,6 +163,7 @@ fn write(head: [usize; 3], row: &[u64]) -> Vec<u8> {
 const SHEET_BITS: [usize; 7] = [8, 8, 8, 16, 64, 64, 64];
 const LEVEL: u64 = 1;
 const RAMP: u64 = 2;
+const SHEET_INCOME: usize = 1;
 
 /// Parts of S: the product is exact, since S is a power of 2, and the cast rounds what is not below 0 down.
 fn parts(x: f64) -> u64 {
@@ -150,7 +171,7 @@ fn parts(x: f64) -> u64 {
 }
 
 /// The plan's head and row, or the number that turns the sheet away. Comparing takes minus zero for zero.
-fn read_sheet(bytes: &[u8]) -> Result<([usize; 3], Vec<u64>), u32> {
+fn read_sheet(bytes: &[u8]) -> Result<([usize; 4], Vec<u64>), u32> {
     if 8 * bytes.len() != SHEET_BITS.iter().sum() {
         return Err(5);
     }
@@ -160,7 +181,8 @@ fn read_sheet(bytes: &[u8]) -> Result<([usize; 3], Vec<u64>), u32> {
         return Err(12);
     }
     let [n, u, m] = [n, u, m].map(|x| x as usize);
-    check_head(n, u, m)?;
+    let head = [n, u, m, SHEET_INCOME];
+    check_head(head)?;
     let [first, step, alpha] = [first, step, alpha].map(f64::from_bits);
     if ![first, step, alpha].iter().all(|x| x.is_finite()) || !(0.0..1.0).contains(&alpha) || kind == LEVEL && step != 0.0 {
         return Err(13);
@@ -172,65 +194,68 @@ fn read_sheet(bytes: &[u8]) -> Result<([usize; 3], Vec<u64>), u32> {
     let weights = iter::successors(Some(1.0 - alpha), |weight| Some(weight * alpha)).take(m);
     let mut row: Vec<u64> = chances.into_iter().chain(weights).map(parts).collect();
     let over = S.checked_sub(row[n..].iter().sum()).ok_or(8u32)?;
-    check_tail(n, u, m, over)?;
+    check_tail(head, over)?;
     row.push(over);
-    Ok(([n, u, m], row))
+    Ok((head, row))
 }
 
 // ---- The month rule
 
-/// The claim sums at the falling levels s of a month: of F_x × row(s + 1 − x) over the sizes x = min(s, m) .. 1 that are not empty.
+/// The claim sums at the falling levels s of a month, each told by its quiet level s + c, where a month without claim leads: of
+/// F_x × row(s + c − x) over the sizes x = min(s + c − 1, m) .. 1 that are not empty.
 fn claim_sums(plan: &Plan) -> impl FnMut(&[u32], usize) -> u64 + '_ {
     let mut listed = &plan.listed[..];
-    move |row, s| {
-        while listed.first().is_some_and(|&(x, _)| x > s) {
+    move |row, quiet| {
+        let (row, largest) = (&row[..quiet], quiet - 1);
+        while listed.first().is_some_and(|&(x, _)| x > largest) {
             listed = &listed[1..]; // for good, since the levels fall
         }
         let mut sum = 0;
         for &(x, weight) in listed {
-            sum += u64::from(weight) * u64::from(row[s + 1 - x]);
+            sum += u64::from(weight) * u64::from(row[quiet - x]);
         }
-        let run = plan.run.len().min(s);
-        for (&weight, &value) in plan.run[plan.run.len() - run..].iter().zip(&row[s + 1 - run..=s]) {
+        let run = plan.run.len().min(largest);
+        for (&weight, &value) in plan.run[plan.run.len() - run..].iter().zip(&row[quiet - run..]) {
             sum += u64::from(weight) * u64::from(value);
         }
         sum
     }
 }
 
-/// One month over the levels from `top` down to 0, in place. `claims` is the claim sum at a level, from the row as it is then. What it leaves over
-/// by S is carried along, so that the value is the quotient by S × S rounded once.
-fn month(row: &mut [u32], top: usize, chance: u32, add: u64, mut claims: impl FnMut(&[u32], usize) -> u64) {
-    let chance = u64::from(chance);
-    let mut above = u64::from(row[top + 1]);
-    for s in (0..=top).rev() {
-        let sum = claims(row, s);
+/// Month t over its levels s from the highest down to 0, in place. `claims` is the claim sum at a quiet level, from the row as it is then. What it
+/// leaves over by S is carried along, so that the value is the quotient by S × S rounded once. The value takes the place of its quiet level, which
+/// no lower level asks for; at the end all go down to their own levels.
+fn month(plan: &Plan, t: usize, add: u64, row: &mut [u32], mut claims: impl FnMut(&[u32], usize) -> u64) {
+    let chance = u64::from(plan.chances[t - 1]);
+    let (income, top) = (plan.income, plan.top(t));
+    for quiet in (income..=top).rev() {
+        let unclaimed = u64::from(row[quiet]);
+        let sum = claims(row, quiet);
         let (claimed, left) = (sum / S, sum % S);
         let carried = (chance * left + add) / S;
-        let value = ((S - chance) * above + chance * claimed + carried + add) / S;
-        above = u64::from(row[s]);
-        row[s] = value as u32;
+        let value = ((S - chance) * unclaimed + chance * claimed + carried + add) / S;
+        row[quiet] = value as u32;
     }
+    row.copy_within(income..=top, 0);
 }
 
 /// From the rows at the end of month t to those before it.
 fn month_of(plan: &Plan, question: Question, t: usize, add: u64, rows: &mut [u32]) {
-    let span = plan.opening + plan.chances.len() + 1;
-    let (chance, top) = (plan.chances[t - 1], plan.opening + t - 1);
+    let levels = plan.levels();
     match question {
         Question::Survive => {}
-        Question::High(level) => rows[(level + 1).min(span)..].fill(0),
-        Question::Low(level) => rows[..level.min(span)].fill(0),
+        Question::High(level) => rows[(level + 1).min(levels)..].fill(0),
+        Question::Low(level) => rows[..level.min(levels)].fill(0),
         Question::Both(k) => {
             for left in (1..=k).rev() {
-                let (fewer, row) = rows[(left - 1) * span..].split_at_mut(span);
+                let (fewer, row) = rows[(left - 1) * levels..].split_at_mut(levels);
                 let mut claims = claim_sums(plan);
-                month(row, top, chance, add, |_, s| claims(fewer, s));
+                month(plan, t, add, row, |_, quiet| claims(fewer, quiet));
             }
-            return month(&mut rows[..span], top, chance, add, |_, _| 0);
+            return month(plan, t, add, &mut rows[..levels], |_, _| 0);
         }
     }
-    month(rows, top, chance, add, claim_sums(plan));
+    month(plan, t, add, rows, claim_sums(plan));
 }
 
 /// The value at the opening, from the rows at the end of this many months: one for each number of claims left, and none left comes first.
@@ -238,8 +263,7 @@ fn carried_back(plan: &Plan, question: Question, months: usize, add: u64, rows: 
     for t in (1..=months).rev() {
         month_of(plan, question, t, add, rows);
     }
-    let span = plan.opening + plan.chances.len() + 1;
-    rows[rows.len() - span + plan.opening]
+    rows[rows.len() - plan.levels() + plan.opening]
 }
 
 /// V_0(u) in one rounding, taken as 0 where the opening is above the level of high.
@@ -247,26 +271,26 @@ fn value(plan: &Plan, question: Question, add: u64, rows: &mut [u32]) -> u32 {
     if matches!(question, Question::High(level) if plan.opening > level) {
         return 0;
     }
-    let span = plan.opening + plan.chances.len() + 1;
     rows.fill(0);
-    rows[..span].fill(S as u32);
+    rows[..plan.levels()].fill(S as u32);
     carried_back(plan, question, plan.chances.len(), add, rows)
 }
 
-/// The value at the opening of failing first in month t, in one rounding. What the sizes up to a level leave of S are those above it, and over.
+/// The value at the opening of failing first in month t, in one rounding. What the sizes below s + c leave of S are those that ruin, and over.
 fn failure(plan: &Plan, t: usize, add: u64, row: &mut [u32]) -> u32 {
     let chance = u64::from(plan.chances[t - 1]);
-    let mut above = S;
-    for (s, value) in row[..plan.opening + t].iter_mut().enumerate() {
-        *value = ((chance * above + add) / S) as u32;
-        above -= u64::from(plan.weights.get(s).copied().unwrap_or(0));
+    let mut weights = plan.weights.iter().map(|&weight| u64::from(weight)).chain(iter::repeat(0));
+    let mut ruining = S - weights.by_ref().take(plan.income - 1).sum::<u64>();
+    for (value, weight) in row[..=plan.top(t - 1)].iter_mut().zip(weights) {
+        *value = ((chance * ruining + add) / S) as u32;
+        ruining -= weight;
     }
     carried_back(plan, Question::Survive, t - 1, add, row)
 }
 
 /// The lower and the upper bound, each in its half of the workspace, which has so many rows.
 fn both_ways(plan: &Plan, rows: usize, workspace: &mut [u32], one_way: impl Fn(u64, &mut [u32]) -> u32) -> [u32; 2] {
-    let half = rows * (plan.opening + plan.chances.len() + 1);
+    let half = rows * plan.levels();
     let (lower, upper) = workspace[..2 * half].split_at_mut(half);
     [one_way(ROUNDINGS[0], lower), one_way(ROUNDINGS[1], upper)]
 }
@@ -299,11 +323,11 @@ fn count_row(plan: &Plan, add: u64) -> [u32; MONTHS + 1] {
 /// the target any more", which a target of 0 never is: what stands there of these openings is below the target too.
 fn opening_values(plan: &Plan, add: u64, target: u64) -> Vec<u32> {
     let months = plan.chances.len();
-    let mut row = vec![S as u32; plan.opening + months + 1];
+    let mut row = vec![S as u32; plan.levels()];
     'months: for t in (1..=months).rev() {
         month_of(plan, Question::Survive, t, add, &mut row);
-        let levels = &row[..plan.opening + t];
-        if levels.iter().all(|&value| u64::from(value) < target) {
+        let reached = &row[..=plan.top(t - 1)];
+        if reached.iter().all(|&value| u64::from(value) < target) {
             break 'months;
         }
     }
@@ -318,8 +342,8 @@ fn least_opening(plan: Plan, target: u64) -> Result<(usize, [u32; 2]), u32> {
     }
     let lowers = opening_values(&plan, ROUNDINGS[0], target);
     let opening = lowers.iter().position(|&lower| u64::from(lower) >= target).ok_or(15u32)?;
-    let mut row = vec![0; opening + plan.chances.len() + 1];
-    let upper = value(&Plan { opening, ..plan }, Question::Survive, ROUNDINGS[1], &mut row);
+    let found = Plan { opening, ..plan };
+    let upper = value(&found, Question::Survive, ROUNDINGS[1], &mut vec![0; found.levels()]);
     Ok((opening, [lowers[opening], upper]))
 }
 
@@ -356,9 +380,9 @@ fn put(text: &mut String, word: &str, number: Option<usize>, [lower, upper]: [im
 }
 
 fn report(plan: &Plan) -> String {
-    let (n, u, m) = (plan.chances.len(), plan.opening, plan.weights.len());
-    let mut workspace = vec![0; 2 * (u + n + 1) * (CLAIMS + 1)];
-    let mut text = format!("months {n} opening {u} sizes {m}\n");
+    let (n, u, m, c) = (plan.chances.len(), plan.opening, plan.weights.len(), plan.income);
+    let mut workspace = vec![0; 2 * plan.levels() * (CLAIMS + 1)];
+    let mut text = format!("months {n} opening {u} sizes {m} income {c}\n");
     put(&mut text, "survive", None, bounds(plan, Question::Survive, &mut workspace));
     let counts = ROUNDINGS.map(|add| count_row(plan, add));
     for k in 0..=n {
@@ -367,10 +391,10 @@ fn report(plan: &Plan) -> String {
     for k in 0..=n.min(CLAIMS) {
         put(&mut text, "both", Some(k), bounds(plan, Question::Both(k), &mut workspace));
     }
-    for level in 1..=u + n {
+    for level in 1..=plan.top(n) {
         put(&mut text, "high", Some(level), bounds(plan, Question::High(level), &mut workspace));
     }
-    for level in 1..=u + 1 {
+    for level in 1..=u + c {
         put(&mut text, "low", Some(level), bounds(plan, Question::Low(level), &mut workspace));
     }
     let mut totals = [0, 0];
@@ -412,7 +436,7 @@ fn moves(plan: &Plan, other: &Plan) -> String {
 /// The same from two plans' bytes, one after the other, which are accepted.
 fn moves_text(bytes: &[u8]) -> String {
     let mut bits = Bits { bytes, at: 0 };
-    let [n, _, m] = HEAD_BITS.map(|width| bits.take(width) as usize);
+    let [n, _, m, _] = HEAD_BITS.map(|width| bits.take(width) as usize);
     let [one, other] = <[&[u8]; 2]>::from(bytes.split_at(plan_bytes(n, m))).map(|bytes| read(bytes).expect("an accepted plan"));
     moves(&one, &other)
 }

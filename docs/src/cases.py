@@ -3,17 +3,21 @@ import itertools
 import random
 from collections import namedtuple
 
+from old_plans import write_old
 from plans import EXAMPLE, EXAMPLE_BYTES, ONE_SIZE, WORKED, changed, flat, flipped, gapped, geometric, lasting_plan, long_plans, questions
 from plans import some_chance, some_plan, split, timed_plans
 from records import BOUNDS, FULL_NUMBER, Calls
-from rules import CLAIMS, HEAD_BYTES, LARGEST, LEVEL, MONTHS, NUMBER_BITS, OPENING, SIZES, SURVIVE, WIDTHS, Head, Question, S
-from rules import all_months, all_openings, bit_length, byte_length, down, month_rule, opened, places_needed, plan_checks, plan_of, refusal
-from rules import row_length, workspace_needed, write_bytes
+from rules import CLAIMS, HEAD_BYTES, INCOME, LARGEST, LEVEL, MONTHS, MOST_ASKED, NO_HEAD, NUMBER_BITS, OPENING, SIZES, SPAN, SURVIVE, WIDTHS, Head
+from rules import Question, S, all_months, all_openings, bit_length, byte_length, down, month_rule, opened, places_needed, plan_checks, plan_of
+from rules import refusal, row_length, workspace_needed, write_bytes
 
 FULL = 2**64 - 1  # the largest number of a head or a question
 WIDEST = Head(*(2**width - 1 for width in WIDTHS))  # what a head's fields can say
 TAIL_SIZES = OPENING + MONTHS - 1  # the least sizes with which the longest plan of the largest opening may have over
 BRIEF = flat(3, 4, 5)  # a plan to damage: three chances, five weights, over
+RICH = Head(2, 1, 4, 2), [S // 3, S // 5] + geometric(4)  # two units a month; over is just allowed, and would not be with a larger income
+WIDE = flat(20, SPAN - 20 * INCOME, 5, INCOME)  # of the largest span
+SEVERAL = range(2, INCOME + 1)  # the incomes above 1
 
 # ---- Calls with a plan in memory
 
@@ -28,6 +32,42 @@ def head_edges():
         yield Head(2, 3, m), flat(2, 3, min(m, SIZES + 1))[1]
     yield Head(2, 3, 0), [0, 0, S]
     yield Head(0, 0, 0), [S]
+    for c in (0, *SEVERAL, INCOME + 1, 15, 16, 17, 2**32 + 1, FULL):
+        yield Head(2, 3, 2, c), flat(2, 3, 2)[1]
+    yield NO_HEAD, [S]
+    for n, u, c in span_edges():
+        yield flat(n, u, c + 1, c)
+    for head in WRAPPING:
+        yield head, flat(2, 3, 2)[1]
+
+
+def span_edges():
+    """Months, openings and incomes: the span at its limit, one past it, and a month past it; with the largest opening, too."""
+    for c in SEVERAL:
+        n = min(MONTHS, SPAN // c)
+        u = SPAN - c * n
+        yield from ((n, u, c), (n, u + 1, c))
+        if n < MONTHS:
+            yield n + 1, u, c
+    for c in (2, INCOME):
+        n = (SPAN - OPENING) // c
+        yield from ((n, OPENING, c), (n + 1, OPENING, c))
+
+
+WRAPPING = [  # u + c × n is small, in most of these, where only its last 64 bits are looked at
+    Head(2**61, 0, 2, 8),
+    Head(2**63, 3, 2, 2),
+    Head(FULL, 3, 2, 2),
+    Head(2, FULL, 2, 8),
+    Head(2, FULL - 8, 2, 8),
+    Head(2, 3, 2, 2**63),
+    Head(2, 3, 2, 2**62),
+    Head(MONTHS, OPENING, 2, 2**64 // MONTHS + 1),
+    Head(MONTHS, OPENING, FULL, FULL),
+    Head(0, 3, 2, FULL),
+    *(Head(*[0] * zeros, *[FULL] * (4 - zeros)) for zeros in range(3)),
+    Head(FULL, FULL, 2, 1),
+]
 
 
 def row_edges():
@@ -47,12 +87,16 @@ def row_edges():
 
 
 def tail_edges():
-    """Over above 0 and none, at m + 1 = u + n and around it."""
+    """Over above 0 and none, at m + 1 = u + c × n and around it."""
     small = (1, 2, 2), (1, 3, 2), (1, 4, 2), (0, 3, 2), (0, 4, 2)
     large = (MONTHS, OPENING, TAIL_SIZES), (MONTHS, OPENING, TAIL_SIZES - 1), (MONTHS, OPENING + 1, TAIL_SIZES + 1)
-    for n, u, m in (*small, *large, (5, 0, 4), (6, 0, 4)):
-        yield flat(n, u, m, 1)
-        yield flat(n, u, m)
+    several = (edge for n, u, c in SPANS for edge in ((n, u, u + c * n - 1, c), (n, u, u + c * n - 2, c)))
+    for head in (*small, *large, (5, 0, 4), (6, 0, 4), *several):
+        yield flat(*head, tail=1)
+        yield flat(*head)
+
+
+SPANS = (2, 1, 2), (3, 2, 3), (1, 0, 8), (2, 1, 5), (0, 3, 8), (40, 0, 8), (MONTHS, 80, 2)  # months, openings and incomes; the last are the widest
 
 
 # ---- Asks, for one of the four questions, for failing in a month or for the least opening
@@ -91,14 +135,26 @@ def room_edges():
             needed = workspace_needed(plan[0], question)
             for room in (needed - 1, needed, needed + 1):
                 yield Ask(*plan, question, room)
+    for n, u, c in SPANS:
+        plan = flat(n, u, c + 3, c)
+        for question in (SURVIVE, Question("both", 2), MOST_ASKED, *levels, fails(1), fails(n)):
+            needed = workspace_needed(plan[0], question)
+            for room in (needed - 1, needed, needed + 1, 2 * (u + n + 1)):  # the last is what an income of 1 needs
+                yield Ask(*plan, question, room)
 
 
 def opening_edges():
-    """Levels around the opening: high is 0, 0 below it, with no months too, and low does not look at it."""
+    """Levels around the opening: high is 0, 0 below it, with no months too, and low does not look at it. With several units a month, levels also
+    around those that the first month and the last one end at without a claim."""
     for n, u in itertools.product((0, 1, 3, MONTHS), (0, 1, 5, OPENING)):
         levels = sorted({0, 1, u - 1, u, u + 1, u + n - 1, u + n, LEVEL} - {-1})
         for word, level in itertools.product(("high", "low"), levels):
             yield Ask(*flat(n, u, 2), Question(word, level))
+    for n, u, c in ((0, 5, 8), (1, 0, 2), (1, 5, 8), (3, 0, 8), (3, 5, 3), (40, 0, 8), (MONTHS, 80, 2)):
+        ends = (x + step for x in (u, u + 1, u + c, u + n, u + c * n) for step in (-1, 0, 1))
+        levels = sorted(level for level in {0, 1, *ends, LEVEL} if 0 <= level <= LEVEL)
+        for word, level in itertools.product(("high", "low"), levels):
+            yield Ask(*flat(n, u, c + 1, c), Question(word, level))
     for n in (0, 3):  # a level below the opening, with workspaces around what is needed
         plan, question = flat(n, 4, 5), Question("high", 3)
         needed = workspace_needed(plan[0], question)
@@ -107,18 +163,20 @@ def opening_edges():
     yield from fault_pairs(Question("high", 3), Question("high", LEVEL + 1))
 
 
-# What turns a row of BRIEF away, by number.
+# What turns a row of BRIEF, or of WIDE, away, by number.
 ROW_FAULTS = {
     7: lambda row: changed(row, 0, S + 1),
-    8: lambda row: changed(row, 3, 7),
+    8: lambda row: changed(row, -6, 7),
     9: lambda row: changed(changed(row, -1, 1), -2, S - 1),
 }
 
-# What turns an ask's plan away, by number: each takes an ask to one that the number fits.
+# What turns an ask's plan away, by number, in the order of the checks: each takes an ask to one that the number fits.
 PLAN_FAULTS = {
     2: lambda ask: ask._replace(head=ask.head._replace(months=MONTHS + 1)),
     3: lambda ask: ask._replace(head=ask.head._replace(opening=OPENING + 1)),
     4: lambda ask: ask._replace(head=ask.head._replace(sizes=SIZES + 1)),
+    16: lambda ask: ask._replace(head=ask.head._replace(income=INCOME + 1)),
+    17: lambda ask: ask._replace(head=ask.head._replace(months=MONTHS, income=INCOME)),
     5: lambda ask: ask._replace(row=ask.row + [0]),
     7: lambda ask: ask._replace(row=ROW_FAULTS[7](ask.row)),
     8: lambda ask: ask._replace(row=ROW_FAULTS[8](ask.row)),
@@ -126,13 +184,21 @@ PLAN_FAULTS = {
 }
 
 
+# Of WIDE alone: past the span with a row that is as long as the head asks.
+WIDE_FAULTS = PLAN_FAULTS | {17: lambda ask: ask._replace(head=ask.head._replace(opening=WIDE[0].opening + 1))}
+
+
 def asking(question):
     return lambda ask: ask._replace(question=question)
 
 
+def short_room(ask):
+    return ask._replace(room=0)
+
+
 def ask_faults(*refused):
-    """What turns an ask away, in the order of the table: its plan, each of these questions, a workspace too short."""
-    return [*PLAN_FAULTS.values(), *map(asking, refused), lambda ask: ask._replace(room=0)]
+    """What turns an ask away, in the order of the checks: its plan, each of these questions, a workspace too short."""
+    return [*PLAN_FAULTS.values(), *map(asking, refused), short_room]
 
 
 def fault_pairs(question, *refused):
@@ -148,21 +214,40 @@ def all_fault_pairs():
     yield from fault_pairs(fails(2), fails(0), fails(BRIEF[0].months + 1))
 
 
+def wide_fault_pairs(whole, *others):
+    """Calls on WIDE that 16 or 17 fits, and each of these alone or another number of the plan, or one of these other faults."""
+    several = WIDE_FAULTS[16], WIDE_FAULTS[17]
+    for one, other in itertools.combinations_with_replacement([*WIDE_FAULTS.values(), *others], 2):
+        if one in several or other in several:
+            yield one(other(whole))
+
+
 def month_edges():
     """Months around 1 and n, and numbers that are a month where only their last bits are looked at."""
-    for n, u in itertools.product((0, 1, 3, MONTHS), (0, 4)):
+    of_one = itertools.product((0, 1, 3, MONTHS), (0, 4), [1])
+    for n, u, c in (*of_one, (0, 4, 8), (3, 4, 2), (3, 0, 8), (40, 0, 8)):
         for t in sorted({0, 1, n, n + 1, 2**8 + 1, 2**32, 2**32 + 1, FULL}):
-            yield Ask(*flat(n, u, 5), fails(t))
+            yield Ask(*flat(n, u, c + 4, c), fails(t))
 
 
 def failing_plans():
-    """A chance of 0 or S in one month; all weight on one size or on over, with the least sizes that the tail rule takes."""
+    """A chance of 0 or S in one month; all weight on one size or on over, with the least sizes that the tail rule takes. With several units a month
+    also all weight around the sizes that leave the first month's fund one unit, none, and less."""
     for u, at, chance in itertools.product((0, 2), range(4), (0, S)):
         yield Head(4, u, 8), changed([S // 2] * 4 + geometric(8), at, chance)
-    for n, u in ((3, 0), (3, 2)):
-        sizes = u + n - 1
+    for n, u, c in ((3, 0, 1), (3, 2, 1), *SPANS[:5]):
+        sizes = u + c * n - 1
         for at in range(sizes + 1):
-            yield Head(n, u, sizes), [S // 3] * n + changed([0] * (sizes + 1), at, S)
+            yield Head(n, u, sizes, c), [S // 3] * n + changed([0] * (sizes + 1), at, S)
+    for at, chance in itertools.product(range(3), (0, S)):
+        yield Head(3, 2, 10, 3), changed([S // 2] * 3 + geometric(10), at, chance)
+    yield from ruin_edges()
+
+
+def ruin_edges():
+    for c, u in itertools.product(SEVERAL, (0, 1, 3)):
+        for x in (u + c - 1, u + c, u + c + 1):
+            yield Head(2, u, x, c), [S, S // 2] + [0] * (x - 1) + [S, 0]
 
 
 def every_month():
@@ -207,9 +292,10 @@ def target_edges():
 
 
 def bound_edges():
-    """At the bounds of every opening: over above 0 at m + 1 = u + n, an opening of 0, and one month with all openings."""
+    """At the bounds of every opening: over above 0 at m + 1 = u + c × n, an opening of 0, and one month with all openings."""
     tailed, lone = (Head(3, 2, 4), [S // 3] * 3 + geometric(4)), (Head(2, 0, 3), [S // 5, S // 7] + geometric(3))
-    for head, row in (EXAMPLE, BRIEF, tailed, lone):
+    several = ((Head(3, 3, 3 * c + 2, c), [S // 2, S // 3, S - 1] + geometric(3 * c + 2)) for c in SEVERAL)
+    for head, row in (EXAMPLE, BRIEF, tailed, lone, *several):
         for target in targets_at_bounds(head, row, all_openings(head)):
             yield Ask(head, row, least(target))
     head, row = Head(1, OPENING, OPENING), [S] + geometric(OPENING)
@@ -217,19 +303,21 @@ def bound_edges():
         yield Ask(head, row, least(target))
 
 
-def given_up():
+def given_up(c):
     """A month in which no level keeps a value, or all keep one part, the first one worked and the last among them."""
+    sizes = 3 + 4 * c - 1
     for at, chance, target in itertools.product(range(4), (S, S - 1), (1, 2)):
-        yield Ask(Head(4, 3, 6), changed([0] * 4, at, chance) + [0] * 6 + [S], least(target))
+        yield Ask(Head(4, 3, sizes, c), changed([0] * 4, at, chance) + [0] * sizes + [S], least(target))
 
 
-def not_given_up():
+def not_given_up(c):
     """Where of the months worked first only levels above the largest opening are good, at times the highest alone, and where none is."""
-    for n, x in ((3, 2), (6, 5), (6, 6), (6, 8)):  # one claim, of size x, which comes in month n: the fund has to open at x + 1 - n
-        for u in range(max(x - n, 0), x + 4 - n):
-            yield Ask(Head(n, u, x), [0] * (n - 1) + [S] + [0] * (x - 1) + [S, 0], least(S))
+    for n, more in ((3, -1), (6, -1), (6, 0), (6, 2)):  # one claim, of c × n and so much more, in month n: the fund has to open above that
+        x = c * n + more
+        for u in range(max(more, 0), more + 4):
+            yield Ask(Head(n, u, x, c), [0] * (n - 1) + [S] + [0] * (x - 1) + [S, 0], least(S))
     for n, u in ((4, 4), (4, 5), (4, 6), (5, 2)):  # a unit less in each month: the fund has to open at n + 1
-        yield Ask(Head(n, u, 2), [S] * n + [0, S, 0], least(S))
+        yield Ask(Head(n, u, c + 1, c), [S] * n + [0] * c + [S, 0], least(S))
 
 
 def target_rooms():
@@ -237,8 +325,8 @@ def target_rooms():
     needed = workspace_needed(BRIEF[0], SURVIVE)
     for target, room in itertools.product((1, S, 0), (0, 1, needed - 1, needed, needed + 1, needed + 40)):
         yield Ask(*BRIEF, least(target), room)
-    for n, u in ((0, 0), (0, 7), (7, 0), (MONTHS, OPENING)):
-        plan = flat(n, u, 1)
+    for n, u, c in ((0, 0, 1), (0, 7, 1), (7, 0, 1), (MONTHS, OPENING, 1), *SPANS):
+        plan = flat(n, u, c, c)
         needed = workspace_needed(plan[0], SURVIVE)
         for room in (needed - 1, needed, needed + 1):
             yield Ask(*plan, least(S), room)
@@ -250,8 +338,9 @@ def target_faults():
     yield from fault_pairs(least(1), least(0), least(S + 1))
     for fault in ask_faults(least(0)):  # "none" comes after all of them
         yield fault(Ask(*BRIEF, least(S), workspace_needed(BRIEF[0], SURVIVE)))
-    for n, u, m in ((1, 2, 2), (1, 3, 2), (0, 3, 2), (0, 4, 2), (5, 0, 4), (6, 0, 4)):  # over, at m + 1 = u + n and one below
-        yield Ask(*flat(n, u, m, 1), least(S // 2))
+    several = (2, 1, 4, 2), (2, 1, 3, 2), (1, 0, 7, 8), (1, 0, 6, 8)
+    for head in ((1, 2, 2), (1, 3, 2), (0, 3, 2), (0, 4, 2), (5, 0, 4), (6, 0, 4), *several):  # over, at m + 1 = u + c × n and one below
+        yield Ask(*flat(*head, tail=1), least(S // 2))
 
 
 def long_targets(rng):
@@ -261,6 +350,8 @@ def long_targets(rng):
         yield Ask(*flat(MONTHS, OPENING, 3), least(target))
     yield Ask(Head(MONTHS, OPENING, 3), [0] + [S] * 100 + [0] * (MONTHS - 101) + [0, 0, S, 0], least(S))  # a unit more, 100 times two less
     yield Ask(LARGEST, [0] * MONTHS + geometric(SIZES), least(S))
+    for n, u, c in ((40, 0, 8), (15, OPENING, 8), (MONTHS, 80, 2)):
+        yield Ask(*flat(n, u, c + 3, c), least(S - S // 100))
     head, row = LARGEST, [rng.randrange(1, S // 25) for _ in range(MONTHS)] + geometric(SIZES)
     for target in targets_at_bounds(head, row, (0, 1)):
         yield Ask(head, row, least(target))
@@ -302,11 +393,16 @@ def openings_edges():
 
 
 def telling_openings():
-    """Much over, at m + 1 = u + n and one below; survival that starts at one opening, 1 or n + 1; bounds that are far apart."""
+    """Much over, at m + 1 = u + c × n and one below; survival that starts at one opening, 1 or n + 1; bounds that are far apart."""
     for n, u, m in ((3, 2, 4), (3, 2, 3), (5, 40, 44), (5, 40, 43), (0, 5, 4), (0, 6, 4)):
         yield lent((Head(n, u, m), [S // 3] * n + geometric(m)))
+    for c, less in itertools.product(SEVERAL, (1, 2)):
+        m = 5 + 3 * c - less
+        yield lent((Head(3, 5, m, c), [S // 3] * 3 + geometric(m)))
     yield lent((Head(6, 4, 1), [S] * 6 + ONE_SIZE))
     yield lent((Head(4, 6, 2), [S] * 4 + [0, S, 0]))
+    for c in SEVERAL:
+        yield lent((Head(4, 6, c + 1, c), [S] * 4 + [0] * c + [S, 0]))
     for head, row in rounding_plans():
         if head.months == MONTHS and head.opening == 2:
             yield lent((head, row))
@@ -318,21 +414,25 @@ def lent_edges():
     needed, places = workspace_needed(BRIEF[0], SURVIVE), places_needed(BRIEF[0])
     for more, longer in itertools.product((-needed, -1, 0, 1, 40), (-places, -1, 0, 1, 40)):
         yield lent(BRIEF, more, longer)
-    for n, u in ((0, 0), (0, 7), (7, 0), (MONTHS, OPENING)):
+    for n, u, c in ((0, 0, 1), (0, 7, 1), (7, 0, 1), (MONTHS, OPENING, 1), *SPANS):
         for more, longer in itertools.product((-1, 0, 1), repeat=2):
-            yield lent(flat(n, u, 3), more, longer)
+            yield lent(flat(n, u, c + 2, c), more, longer)
     for fill, lengths in itertools.product((0, 1, S, 2**31, FULL_NUMBER), ((0, 0), (3, 3), (-1, 3), (3, -1))):
         yield lent(EXAMPLE, *lengths, fill)
+
+
+def no_places(call):
+    return call._replace(places=0)
 
 
 def openings_faults():
     """Calls that two numbers of the table fit, or 11 twice: the earlier one counts. Then each number of a plan with both lent parts too short."""
     whole = Openings(*BRIEF, ENOUGH, BOUNDS)  # long enough, too, for heads past the limits
-    faults = [*PLAN_FAULTS.values(), lambda call: call._replace(room=0), lambda call: call._replace(places=0)]
-    for one, other in itertools.combinations_with_replacement(faults, 2):
+    for one, other in itertools.combinations_with_replacement([*PLAN_FAULTS.values(), short_room, no_places], 2):
         yield one(other(whole))
     for fault in PLAN_FAULTS.values():
         yield fault(lent(BRIEF, -1, -1))
+    yield from wide_fault_pairs(Openings(*WIDE, ENOUGH, BOUNDS), short_room, no_places)
 
 
 def long_openings(rng):
@@ -350,18 +450,19 @@ def last_bit_flipped(data):
     return flipped(data, 8 * len(data) - 1)
 
 
-def example_damaged():
+def damaged(data):
     """Every length, and every bit turned over."""
-    for length in range(len(EXAMPLE_BYTES) + 2):
-        yield (EXAMPLE_BYTES + b"\0")[:length]
-    for bit in range(8 * len(EXAMPLE_BYTES)):
-        yield flipped(EXAMPLE_BYTES, bit)
+    for length in range(len(data) + 2):
+        yield (data + b"\0")[:length]
+    for bit in range(8 * len(data)):
+        yield flipped(data, bit)
 
 
 def head_byte_edges():
     """Heads at the limits and one past them, each at its length, one byte longer and one shorter."""
     past = (LARGEST._replace(**{name: most + 1}) for name, most in LARGEST._asdict().items())
-    for head in (LARGEST, *past, WIDEST, LARGEST._replace(sizes=0), Head(0, 0, 1), Head(0, 0, 0)):
+    incomes = Head(40, 0, SIZES, INCOME), Head(40, 1, SIZES, INCOME), Head(40, 0, SIZES, INCOME + 1), LARGEST._replace(income=0)
+    for head in (LARGEST, *past, WIDEST, LARGEST._replace(sizes=0), Head(0, 0, 1), Head(0, 0, 0), *incomes, NO_HEAD):
         plain = write_bytes(head, ([0] * head.months + [S] + [0] * head.sizes)[: row_length(head)])
         yield from (plain, plain + b"\0", plain[:-1])
     yield b"\xff" * (byte_length(LARGEST) + 1)
@@ -369,12 +470,30 @@ def head_byte_edges():
 
 def row_byte_edges():
     longest = (MONTHS, OPENING, TAIL_SIZES), (MONTHS, OPENING, TAIL_SIZES - 1)
-    for n, u, m in ((1, 2, 2), (1, 3, 2), (0, 3, 2), (0, 4, 2), *longest):  # over, at m + 1 = u + n and one below
-        yield write_bytes(*flat(n, u, m, 1))
+    several = (2, 1, 4, 2), (2, 1, 3, 2), (1, 0, 7, 8), (1, 0, 6, 8), (40, 0, 319, 8), (40, 0, 318, 8)
+    for head in ((1, 2, 2), (1, 3, 2), (0, 3, 2), (0, 4, 2), *longest, *several):  # over, at m + 1 = u + c × n and one below
+        yield write_bytes(*flat(*head, tail=1))
     head, row = BRIEF
     for one, other in itertools.combinations(ROW_FAULTS, 2):
         data = write_bytes(head, ROW_FAULTS[one](ROW_FAULTS[other](row)))
         yield from (data, last_bit_flipped(data))  # the second has a fill bit as well
+
+
+def income_byte_edges():
+    """Every income that the bits of a head can say; the span at its limit and past it; 3 and 4 bytes of heads that are refused; pairs of numbers; and
+    plans as they were written before they had an income, which are bytes like any others."""
+    for head, row in (BRIEF, RICH):
+        yield from (write_bytes(head._replace(income=c), row) for c in range(2 ** WIDTHS.income))
+    yield from (write_bytes(*flat(n, u, 1, c)) for n, u, c in span_edges())
+    for number in (2, 3, 4, 16, 17):
+        data = write_bytes(*PLAN_FAULTS[number](Ask(*BRIEF, SURVIVE))[:2])
+        yield from (data[: HEAD_BYTES - 1], data[:HEAD_BYTES])
+    yield from (b"\xff" * length for length in range(1, HEAD_BYTES + 1))
+    for head, row, *_ in wide_fault_pairs(Ask(*WIDE, SURVIVE)):
+        data = write_bytes(head, row)
+        yield from (data, last_bit_flipped(data), data[:-1])  # the last two have a fill bit as well, or are too short
+    for plan in (EXAMPLE, BRIEF, flat(0, 0, 1), flat(3, 4, 6, tail=1), flat(MONTHS, OPENING, 3), (Head(4, 3, 8), [S // 3] * 4 + geometric(8))):
+        yield write_old(*plan)
 
 
 # ---- All calls of `vectors`, in their order
@@ -390,20 +509,20 @@ def add_edges(calls):
         calls.write(head, row, room=4 if refusal(plan_checks(head, row)) else byte_length(head))
     for ask in itertools.chain(number_edges(), room_edges(), all_fault_pairs(), month_edges(), every_month()):
         calls.ask(*ask)
-    for data in itertools.chain(example_damaged(), head_byte_edges(), row_byte_edges()):
+    for data in itertools.chain(damaged(EXAMPLE_BYTES), head_byte_edges(), row_byte_edges()):
         calls.read(data)
 
 
-def add_lent_memory(calls):
-    """What a lent part held before, and its length around what is needed."""
-    head, _ = EXAMPLE
+def add_lent_memory(calls, plan):
+    """What a lent part held before, and its length around what is needed, on a plan of two months."""
+    head, data = plan[0], write_bytes(*plan)
     for fill in (0, 1, S, 2**31, FULL_NUMBER):
         for question in (SURVIVE, Question("both", 2), Question("high", 2), Question("low", 2), fails(1), fails(2)):
-            calls.ask(*EXAMPLE, question, workspace_needed(head, question) + 3, fill)
-        calls.read(EXAMPLE_BYTES, row_length(head), fill)
+            calls.ask(*plan, question, workspace_needed(head, question) + 3, fill)
+        calls.read(data, row_length(head), fill)
         for more in (-row_length(head), -1, 1, 4):
-            calls.read(EXAMPLE_BYTES, row_length(head) + more, fill)
-            calls.write(*EXAMPLE, byte_length(head) + more, fill % 256)
+            calls.read(data, row_length(head) + more, fill)
+            calls.write(*plan, byte_length(head) + more, fill % 256)
 
 
 def add_random_asks(calls, rng, head, row, asked):
@@ -411,20 +530,32 @@ def add_random_asks(calls, rng, head, row, asked):
         calls.ask(head, row, question, workspace_needed(head, question) + rng.randrange(3), rng.getrandbits(32))
 
 
+def add_small_plan(calls, rng, own, head, row):
+    """All questions and months. Failing has random numbers of its own, on which no plan and no question hangs."""
+    add_random_asks(calls, rng, head, row, questions(head))
+    add_random_asks(calls, own, head, row, map(fails, all_months(head)))
+
+
+def add_bytes(calls, head, row):
+    calls.write(head, row, byte_length(head) + 1)
+    calls.read(write_bytes(head, row), row_length(head) + 1)
+
+
+def add_long_plan(calls, rng, own, head, row, most=CLAIMS):
+    """Some questions and months, both up to this many claims."""
+    calls.count(head, row)
+    add_bytes(calls, head, row)
+    levels = Question("high", head.opening + head.income * head.months // 2), Question("low", head.opening // 2)
+    add_random_asks(calls, rng, head, row, (SURVIVE, *levels, Question("both", 3), Question("both", most)))
+    n = head.months
+    add_random_asks(calls, own, head, row, (fails(t) for t in (1, 2, n // 2, n - 1, n) if t in all_months(head)))
+
+
 def add_random_plans(calls, rng, own):
-    """Failing has random numbers of its own, on which no plan and no question hangs."""
-    for _ in range(40):  # small plans, all questions and months
-        head, row = some_plan(rng, rng.randrange(5), rng.randrange(5), rng.randrange(1, 8))
-        add_random_asks(calls, rng, head, row, questions(head))
-        add_random_asks(calls, own, head, row, map(fails, all_months(head)))
+    for _ in range(40):
+        add_small_plan(calls, rng, own, *some_plan(rng, rng.randrange(5), rng.randrange(5), rng.randrange(1, 8)))
     for head, row in long_plans(rng):
-        calls.count(head, row)
-        calls.write(head, row, byte_length(head) + 1)
-        calls.read(write_bytes(head, row), row_length(head) + 1)
-        levels = Question("high", head.opening + head.months // 2), Question("low", head.opening // 2)
-        add_random_asks(calls, rng, head, row, (SURVIVE, *levels, Question("both", 3), Question("both", CLAIMS)))
-        n = head.months
-        add_random_asks(calls, own, head, row, (fails(t) for t in (1, 2, n // 2, n - 1, n) if t in all_months(head)))
+        add_long_plan(calls, rng, own, head, row)
 
 
 def add_openings(calls):
@@ -445,6 +576,9 @@ def add_claim_sums(calls, rng):
         calls.claims(head, fault(row), 2)
     calls.claims(head._replace(months=MONTHS + 1), row, 2)
     calls.claims(head, row[:-1], 2)
+    for c in (0, *SEVERAL, INCOME + 1):  # the sum is the same whatever the income
+        calls.claims(head._replace(income=c), row, 5)
+    calls.claims(head._replace(months=MONTHS, income=INCOME), row, 2)
 
 
 def add_roundings(calls):
@@ -454,7 +588,8 @@ def add_roundings(calls):
 
 
 def add_least_openings(calls, rng):
-    edges = target_edges(), bound_edges(), given_up(), not_given_up(), target_rooms(), target_faults()
+    late = (edges(c) for edges in (given_up, not_given_up) for c in (1, 2, 5))
+    edges = target_edges(), bound_edges(), *late, target_rooms(), target_faults()
     for ask in itertools.chain(*edges, long_targets(rng)):
         calls.ask(*ask)
     for fill, target in itertools.product((0, 1, S, 2**31, FULL_NUMBER), (1, S, 0)):
@@ -479,16 +614,70 @@ def add_all_openings(calls, rng):
             add_random_asks(calls, rng, head._replace(opening=opening), row, [SURVIVE])
 
 
+def small_income_plans(rng, c):
+    """With claims that can ruin."""
+    for n in range(4):
+        u = rng.randrange(4)
+        yield some_plan(rng, n, u, rng.randint(c, u + c * n + c), c)
+
+
+def long_income_plans(rng, c):
+    """A middle one, and one of the most months with this income and then the largest opening, no size empty and over above 0."""
+    yield lasting_plan(rng, rng.randrange(8, 20), rng.randrange(1, 8), rng.randrange(c, 5 * c), c)
+    n = min(MONTHS, SPAN // c)
+    yield Head(n, SPAN - c * n, SIZES, c), [rng.randrange(S * c // SIZES) for _ in range(n)] + split(rng, SIZES + 1, 0)
+
+
+def add_income(calls, rng, c):
+    """Every kind of call with this income."""
+    for head, row in small_income_plans(rng, c):
+        calls.count(head, row)
+        add_bytes(calls, head, row)
+        calls.claims(head, row, head.months)
+        add_small_plan(calls, rng, rng, head, row)
+        add_random_asks(calls, rng, head, row, map(least, targets_at_bounds(head, row, all_openings(head))))
+        add_random_openings(calls, rng, (head, row))
+    for head, row in long_income_plans(rng, c):
+        add_long_plan(calls, rng, rng, head, row, CLAIMS if c in (3, INCOME) else 5)
+        add_random_asks(calls, rng, head, row, map(least, targets_at_bounds(head, row, [0])))
+        add_random_openings(calls, rng, (head, row))
+
+
+def add_incomes(calls, rng):
+    """Of several units a month; the edges above have more of them."""
+    for head, row in ruin_edges():
+        calls.ask(head, row, SURVIVE)
+    for question, refused in ((SURVIVE, Question("both", CLAIMS + 1)), (fails(1), fails(0)), (least(1), least(0))):
+        whole = Ask(*WIDE, question, workspace_needed(WIDE[0], question))
+        for ask in (whole, *wide_fault_pairs(whole, asking(refused), short_room)):
+            calls.ask(*ask)
+    for head, row, *_ in wide_fault_pairs(Ask(*WIDE, SURVIVE)):
+        calls.count(head, row)
+        calls.write(head, row, 4)
+    for data in itertools.chain(damaged(write_bytes(*RICH)), income_byte_edges()):
+        calls.read(data)
+    for fault in (WIDE_FAULTS[16], WIDE_FAULTS[17]):
+        calls.read(write_bytes(*fault(Ask(*WIDE, SURVIVE))[:2]), 0)
+    add_lent_memory(calls, RICH)
+    for fill, target in itertools.product((0, 1, S, 2**31, FULL_NUMBER), (1, S, 0)):
+        calls.ask(*RICH, least(target), workspace_needed(RICH[0], SURVIVE) + 3, fill)
+    for fill, lengths in itertools.product((0, 1, S, 2**31, FULL_NUMBER), ((0, 0), (3, 3), (-1, 3), (3, -1))):
+        calls.openings(*lent(RICH, *lengths, fill))
+    for c in range(1, INCOME + 1):
+        add_income(calls, rng, c)
+
+
 def all_calls():
     calls = Calls()
     add_edges(calls)
-    add_lent_memory(calls)
+    add_lent_memory(calls, EXAMPLE)
     add_random_plans(calls, random.Random(1), random.Random(5))
     add_claim_sums(calls, random.Random(7))
     add_openings(calls)
     add_roundings(calls)
     add_least_openings(calls, random.Random(11))
     add_all_openings(calls, random.Random(13))
+    add_incomes(calls, random.Random(17))
     return calls
 
 
@@ -507,7 +696,7 @@ def repeated_calls(question, times, plan):
 
 
 def refused_bytes():
-    """Plan bytes that the numbers 1 to 9 turn away, in this order."""
+    """Plan bytes that the numbers 1 to 9, 16 and 17 turn away, in the order of the checks."""
     head, row = BRIEF
     good, longest = write_bytes(head, row), write_bytes(*flat(*LARGEST))
     yield from (b"", good[: HEAD_BYTES - 1])
@@ -515,18 +704,23 @@ def refused_bytes():
     yield write_bytes(*flat(3, OPENING + 1, 5))
     yield write_bytes(*flat(3, 4, SIZES + 1))
     yield write_bytes(Head(3, 4, 0), row[:3] + [S])
+    yield from (write_bytes(*flat(3, 4, 5, c)) for c in (0, INCOME + 1, 15))
+    yield write_bytes(*flat(MONTHS, OPENING, 5, INCOME + 1))
+    yield from (write_bytes(*flat(*head)) for head in ((40, 1, 5, INCOME), (41, 0, 5, INCOME), (MONTHS, 81, 5, 2), (MONTHS, OPENING, SIZES, 2)))
+    yield write_bytes(*flat(40, 1, 5, INCOME))[:HEAD_BYTES]
     yield from (good[:HEAD_BYTES], good[:-1], good + b"\0", longest[:-1], longest + b"\0", longest * 2)
     yield last_bit_flipped(good)
     yield flipped(EXAMPLE_BYTES, bit_length(EXAMPLE[0]))  # the first of the fill bits
     for at in (0, 3, 8):  # a chance, a weight, over
         yield write_bytes(head, changed(row, at, S + 1))
     yield from (write_bytes(head, changed(row, 7, S - 1)), write_bytes(head, changed(row, 8, 1)))
-    yield write_bytes(*flat(3, 4, 5, 1))
+    yield write_bytes(*flat(3, 4, 5, tail=1))
+    yield write_bytes(*flat(2, 1, 3, 2, tail=1))
 
 
 def reported_plans(rng):
-    """Accepted plans, from the smallest to the largest."""
-    yield from (EXAMPLE, (Head(0, 0, 1), ONE_SIZE), flat(0, 7, 3), flat(0, 7, 6, S // 3), flat(1, 0, 1), flat(3, 4, 6, 1))
+    """Accepted plans of one unit a month, from the smallest to the largest."""
+    yield from (EXAMPLE, (Head(0, 0, 1), ONE_SIZE), flat(0, 7, 3), flat(0, 7, 6, tail=S // 3), flat(1, 0, 1), flat(3, 4, 6, tail=1))
     for u, chance in itertools.product((0, 9), (0, S)):
         yield Head(12, u, 6), [chance] * 12 + split(rng, 6, 0) + [0]
     around_claims = (CLAIMS - 1, 12, 5), (CLAIMS, 0, 30), (CLAIMS + 1, 10, CLAIMS + 10)  # where the lines of both end at n and at CLAIMS
@@ -536,7 +730,17 @@ def reported_plans(rng):
     yield LARGEST, [rng.randrange(1, S // 25) for _ in range(MONTHS)] + split(rng, SIZES + 1, 0)
 
 
+def reported_incomes(rng):
+    """Accepted plans of several units a month, the last ones of the largest span."""
+    yield from (RICH, flat(0, 3, 2, INCOME), flat(1, 0, 1, 2), flat(1, 0, 2, 2), flat(2, 1, 16, INCOME, tail=S // 3))
+    for c in SEVERAL:
+        yield some_plan(rng, rng.randint(2, 6), rng.randrange(6), rng.randint(c, 4 * c), c)
+    yield lasting_plan(rng, CLAIMS + 6, 20, 12, 3)
+    yield some_plan(rng, 15, OPENING, 10, INCOME)
+    yield Head(40, 0, SIZES, INCOME), [rng.randrange(1, S // 5) for _ in range(40)] + split(rng, SIZES + 1, 0)
+
+
 def reported_bytes():
     yield from refused_bytes()
-    for head, row in reported_plans(random.Random(3)):
+    for head, row in itertools.chain(reported_plans(random.Random(3)), reported_incomes(random.Random(19))):
         yield write_bytes(head, row)

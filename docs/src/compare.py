@@ -9,11 +9,11 @@ bounds them.
   compare.py --openings PROGRAM REFERENCE [COUNT]
   compare.py --moves PROGRAM REFERENCE [COUNT]
 
-Makes COUNT (100) random accepted plans or sheets of all sizes and as many damaged ones, always the same, hands each to both programs on standard
-input, and compares what they write on standard output and standard error, byte for byte. For the least opening it does so with several targets,
-each a program's last argument. For moves it makes pairs of accepted plans alike but for their chances: PROGRAM prints the report of each, and REFERENCE
-how far each line moves between them; a line that moves by more than the sum of the chances' differences counts as a difference. A program may be a
-command of several words, given as one. The last line is the number of differences.
+Makes COUNT (100) random accepted plans of all sizes and incomes, or sheets, and as many damaged ones, always the same, hands each to both
+programs on standard input, and compares what they write on standard output and standard error, byte for byte. For the least opening it does so
+with several targets, each a program's last argument. For moves it makes pairs of accepted plans alike but for their chances: PROGRAM prints the
+report of each, and REFERENCE how far each line moves between them; a line that moves by more than the sum of the chances' differences counts as
+a difference. A program may be a command of several words, given as one. The last line is the number of differences.
 """
 import random
 import shlex
@@ -24,7 +24,8 @@ from collections import Counter, namedtuple
 
 from moves import moves_text, too_far
 from plans import changed, flipped, gapped, geometric, some_chance, split
-from rules import CLAIMS, HEAD_BITS, HEAD_BYTES, LARGEST, MONTHS, OPENING, SIZES, Head, S, bit_length, byte_length, write_bytes
+from rules import CLAIMS, HEAD_BITS, HEAD_BYTES, INCOME, LARGEST, MONTHS, OPENING, SIZES, SPAN, WIDTHS, Head, S, bit_length, byte_length
+from rules import largest_level, write_bytes
 from sheet_cases import damaged_sheet, some_sheet
 from sheets import write_sheet
 
@@ -34,13 +35,26 @@ BEYOND = -(-byte_length(LARGEST) // 100) * 100  # a round number of bytes, a lit
 
 
 def some_number(rng, least, most, *edges):
-    return rng.choice([least, most, *edges, *(rng.randint(least, most) for _ in range(8))])
+    inside = (edge for edge in edges if least <= edge <= most)
+    return rng.choice([least, most, *inside, *(rng.randint(least, most) for _ in range(8))])
+
+
+def sized_head(rng, n, u, c):
+    """With some sizes."""
+    tail_rule = u + c * n - 2, u + c * n - 1  # the last that it refuses and the first that it allows
+    return Head(n, u, some_number(rng, 1, SIZES, 2, *tail_rule), c)
+
+
+def sheet_head(rng):
+    """Of income 1, as sheets have."""
+    return sized_head(rng, some_number(rng, 0, MONTHS, 1, CLAIMS, CLAIMS + 1), some_number(rng, 0, OPENING, 1), 1)
 
 
 def some_head(rng):
-    n, u = some_number(rng, 0, MONTHS, 1, CLAIMS, CLAIMS + 1), some_number(rng, 0, OPENING, 1)
-    tail_rule = [m for m in (u + n - 2, u + n - 1) if 1 <= m <= SIZES]  # the last that it refuses and the first that it allows
-    return Head(n, u, some_number(rng, 1, SIZES, 2, *tail_rule))
+    """Of any income, often of the largest span that the other numbers allow."""
+    c = rng.randint(1, INCOME)
+    n = some_number(rng, 0, min(MONTHS, SPAN // c), 1, CLAIMS, CLAIMS + 1)
+    return sized_head(rng, n, some_number(rng, 0, min(OPENING, SPAN - c * n), 1), c)
 
 
 def some_chances(rng, n):
@@ -77,9 +91,9 @@ def some_weights(rng, parts):
 
 def some_row(rng, head):
     """Over may be above 0 in half of the rows where the tail rule allows it."""
-    n, u, m = head
-    parts = m + 1 if m + 1 >= u + n and rng.randrange(2) else m
-    return some_chances(rng, n) + some_weights(rng, parts) + [0] * (m + 1 - parts)
+    m = head.sizes
+    parts = m + 1 if m + 1 >= largest_level(head) and rng.randrange(2) else m
+    return some_chances(rng, head.months) + some_weights(rng, parts) + [0] * (m + 1 - parts)
 
 
 def accepted(rng):
@@ -141,7 +155,15 @@ def random_bytes(rng, head, row):
     return rng.randbytes(rng.choice([rng.randrange(HEAD_BYTES + 2), rng.randrange(BEYOND), byte_length(head)]))
 
 
-DAMAGES = [in_head, in_row, in_padding, one_more, with_tail, shortened, lengthened, random_row, random_bytes]
+def past_span(rng, head, row):
+    """Another head and row: just past the span, or with an income that there is not, and a row that is as long as it should be."""
+    c = rng.randint(2, INCOME)
+    n = rng.randint(-(-(SPAN + 1 - OPENING) // c), min(MONTHS, SPAN // c))
+    past = sized_head(rng, n, SPAN + 1 - c * n, rng.choice([c, c, 0, *range(INCOME + 1, 2**WIDTHS.income)]))
+    return write_bytes(past, some_row(rng, past))
+
+
+DAMAGES = [in_head, in_row, in_padding, one_more, with_tail, shortened, lengthened, random_row, random_bytes, past_span]
 
 
 def damaged(rng):
@@ -149,15 +171,15 @@ def damaged(rng):
     return rng.choice(DAMAGES)(rng, head, some_row(rng, head))
 
 
-# ---- Sheets, of heads as these plans have
+# ---- Sheets, of heads as these plans of income 1 have
 
 
 def accepted_sheet(rng):
-    return write_sheet(some_sheet(rng, some_head(rng)))
+    return write_sheet(some_sheet(rng, sheet_head(rng)))
 
 
 def some_damaged_sheet(rng):
-    return damaged_sheet(rng, some_head(rng))
+    return damaged_sheet(rng, sheet_head(rng))
 
 
 # ---- Pairs of plans that differ only in their chances, one after the other

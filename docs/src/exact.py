@@ -33,7 +33,8 @@ def month_weight(plan, chance, event):
 
 def path(plan, history):
     """U_1 to U_n; an over claim, whatever its size, leaves no level above 0 (the level is minus infinity here)."""
-    return list(itertools.accumulate(history, lambda level, event: level + 1 - event, initial=plan.head.opening))[1:]
+    opening, income = plan.head.opening, plan.head.income
+    return list(itertools.accumulate(history, lambda level, event: level + income - event, initial=opening))[1:]
 
 
 def outcome(plan, history):
@@ -106,7 +107,7 @@ def carried_weight(plan, question):
     tallied = question.word == "both"
 
     def following(state, event):
-        level, claims = state[0] + 1 - event, state[1] + (tallied and event != NO_CLAIM)
+        level, claims = state[0] + plan.head.income - event, state[1] + (tallied and event != NO_CLAIM)
         return (level, claims) if level_kept(question, level) and claims <= question.number else None
 
     if not opening_kept(question, plan.head.opening):
@@ -127,7 +128,7 @@ def carried_failures(plan):
         t, level = state
         if level is None:
             return state
-        after = level + 1 - event
+        after = level + plan.head.income - event
         return t + 1, after if after > 0 else None
 
     weights = carried(plan, (0, plan.head.opening), following)
@@ -149,7 +150,7 @@ def keeps_gap(plan, months, lower, upper):
     return lower <= upper <= lower + GAP * sum(chance > 0 for chance in plan.chances[:months])
 
 
-# ---- The published recursions in fractions (source document 000, Theorems 2.1 and 3.2)
+# ---- The published recursions in fractions (source document 000, Theorems 2.1 and 3.2), for an income of 1 alone
 #
 # p has the chances that are left: they go on from month t + 1, as document 01's traps say. f(x) is the chance of size x.
 

@@ -8,8 +8,8 @@ from rules import CLAIMS, LARGEST, MONTHS, OPENING, SIZES, SURVIVE, Head, Questi
 
 ONE_SIZE = [S, 0]  # F_1 = S and no over
 EXAMPLE = Head(2, 1, 2), [S // 2] * 4 + [0]  # the report's plan
-EXAMPLE_BYTES = bytes.fromhex("04 02 02 40 00 00 00 80 00 00 01 00 00 00 02 00 00 00 00 00 00 00 00")
-EXAMPLE_TEXT = """months 2 opening 1 sizes 2
+EXAMPLE_BYTES = bytes.fromhex("04 02 02 14 00 00 00 08 00 00 00 10 00 00 00 20" + 7 * " 00")
+EXAMPLE_TEXT = """months 2 opening 1 sizes 2 income 1
 survive 738197504 738197504
 claims 0 268435456 268435456
 claims 1 536870912 536870912
@@ -46,6 +46,10 @@ WORKED = [  # "Funds worked by hand": head, row, question, refusal, lower, upper
     (Head(MONTHS + 1, 0, 1), [S // 2] * (MONTHS + 1) + ONE_SIZE, SURVIVE, 2, 0, 0),
     (*EXAMPLE, Question("both", CLAIMS), 0, None, None),
     (*EXAMPLE, Question("both", CLAIMS + 1), 10, 0, 0),
+    (Head(1, 0, 1, 2), [S] + ONE_SIZE, SURVIVE, 0, S, S),  # the rest are document 02's: two units a month, of which a claim leaves one or none
+    (Head(1, 0, 2, 2), [S, 0, S, 0], SURVIVE, 0, 0, 0),
+    (Head(40, 0, 1, 8), [S // 2] * 40 + ONE_SIZE, SURVIVE, 0, S, S),  # the largest span
+    (Head(40, 1, 1, 8), [S // 2] * 40 + ONE_SIZE, SURVIVE, 17, 0, 0),
 ]
 
 
@@ -62,9 +66,9 @@ def questions(head):
 # ---- Plain plans, and changes to them
 
 
-def flat(n, u, m, tail=0):
+def flat(n, u, m, c=1, tail=0):
     """A plan with every chance S/2 and all weight on the largest size, less the tail."""
-    return Head(n, u, m), [S // 2] * n + [0] * (m - 1) + [S - tail, tail]
+    return Head(n, u, m, c), [S // 2] * n + [0] * (m - 1) + [S - tail, tail]
 
 
 def changed(row, at, x):
@@ -102,17 +106,17 @@ def gapped(rng, parts):
     return shares[:small] + [0] * (parts - len(shares)) + shares[small:]
 
 
-def some_plan(rng, n, u, m):
+def some_plan(rng, n, u, m, c=1):
     """An accepted head and row."""
-    head, chances = Head(n, u, m), [some_chance(rng) for _ in range(n)]
+    head, chances = Head(n, u, m, c), [some_chance(rng) for _ in range(n)]
     if m + 1 >= largest_level(head) and rng.randrange(2):
         return head, chances + split(rng, m + 1, 2)
     return head, chances + split(rng, m, rng.choice([0, 2, 7])) + [0]
 
 
-def lasting_plan(rng, n, u, m):
-    """No size empty, and claims so rare that the fund gains more than it pays."""
-    return Head(n, u, m), [rng.randrange(S // m) for _ in range(n)] + split(rng, m, 0) + [0]
+def lasting_plan(rng, n, u, m, c=1):
+    """No size empty, and claims so rare that more comes in than is paid."""
+    return Head(n, u, m, c), [rng.randrange(S * c // max(m, c)) for _ in range(n)] + split(rng, m, 0) + [0]
 
 
 def geometric(m, alpha=Fraction(3, 4)):

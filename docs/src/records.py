@@ -1,28 +1,29 @@
 """What the test programs read, and the lines that `vectors` has to print.
 
-The input of `vectors` is a list of records: eight words of 8 bytes, most significant byte first (kind, months, opening, sizes, number, room,
-fill, length), then what the kind asks. `row` sets the row that later records use: length numbers of 4 bytes. The four questions ask with that
+The input of `vectors` is a list of records: nine words of 8 bytes, most significant byte first (kind, months, opening, sizes, income, number,
+room, fill, length), then what the kind asks. `row` sets the row that later records use: length numbers of 4 bytes. The four questions ask with that
 row, `number` as k or L and a workspace of `room` numbers that each hold `fill`; `fails` asks in the same way, `number` as the month, and `least`,
 `number` as the target, for the least opening and its bounds. `count` asks for the count row. `claims` takes the claim sum over the row's
 weights, with the first `number` of its chances as the values that claims of size 1, 2, … lead to, and answers its quotient by S, what is left
 over and the number of products. `openings` lends a row of `number` numbers, which takes the bounds of all openings, and a workspace of `room`, each
 number holding `fill`. `write` lends `room` bytes and `read` a row of `room` numbers, each holding `fill`; `read` is followed by the plan's
 `length` bytes.
-Its output has a line for each record but `row`: the refusal's number, the numbers answered, and the lent memory after the call where there is any, which
-is the bytes of `write` in hexadecimal and otherwise a checksum; of `openings` a checksum of the whole lent row and then one of the whole workspace.
+Its output has a line for each record but `row`: the refusal's number, the numbers answered, of `read` months, opening, sizes and income, and the lent
+memory after the call where there is any, which is the bytes of `write` in hexadecimal and otherwise a checksum; of `openings` a checksum of the whole
+lent row and then one of the whole workspace.
 
 `reports` and `tables` read plans one after another: two bytes with a plan's length, most significant first, and its bytes.
 
 `sheets` reads records of a kind (one byte), a room (two bytes, most significant first) and a sheet with its length, as those plans have theirs.
-`read` reads the sheet into a row of `room` numbers that each hold FULL_NUMBER; its line has the refusal's number, the head and the whole row after
-the call. `write` turns the sheet into plan bytes, in `room` bytes that each hold FULL_BYTE; its line has the refusal's number, the length and all
-lent bytes. `report` prints the reserve report of these plan bytes.
+`read` reads the sheet into a row of `room` numbers that each hold FULL_NUMBER; its line has the refusal's number, the head, as above, and the whole
+row after the call. `write` turns the sheet into plan bytes, in `room` bytes that each hold FULL_BYTE; its line has the refusal's number, the length
+and all lent bytes. `report` prints the reserve report of these plan bytes.
 """
 import itertools
 import math
 from functools import cache
 
-from rules import HEAD_BYTES, LARGEST, MOST_ASKED, NONE, PLACES, S, SURVIVE, Head, ask_checks, bounds, byte_length, claim_sum, count_row, down
+from rules import HEAD_BYTES, LARGEST, MOST_ASKED, NO_HEAD, NONE, PLACES, S, SURVIVE, ask_checks, bounds, byte_length, claim_sum, count_row, down
 from rules import failure_bounds, failure_checks, least_answer, opening_pairs, openings_answer, places_needed, plan_checks, plan_of, read_bytes
 from rules import read_checks, refusal, report, row_length, up, walked_pairs, workspace_needed, write_bytes, write_checks
 from sheets import made_bytes, made_plan, sheet_checks
@@ -78,7 +79,7 @@ def workspace_after(head, question, number, room, fill):
     return [0] * needed + [fill] * (room - needed)
 
 
-LARGE = 10**6  # months × opening × sizes from which one walk for all openings takes the place of asking each
+LARGE = 10**6  # months × opening × sizes × income from which one walk for all openings takes the place of asking each
 
 
 @cache
@@ -99,7 +100,7 @@ class Calls:
     def __init__(self):
         self.records, self.lines, self.labels, self.row = [], [], [], None
 
-    def record(self, kind, head=Head(0, 0, 0), number=0, room=0, fill=0, payload=b"", length=0):
+    def record(self, kind, head=NO_HEAD, number=0, room=0, fill=0, payload=b"", length=0):
         words = (KINDS.index(kind), *head, number, room, fill, length)
         self.records.append(b"".join(word.to_bytes(8, "big") for word in words) + payload)
 
@@ -143,7 +144,7 @@ class Calls:
         number = refusal(plan_checks(head, row))
         values = [] if number else plan_of(head, row).chances[:count]
         after = [0, *reversed(values)]  # the row of levels 0 to as many as there are values: a claim of size 1 leads to the highest
-        total, products = (0, 0) if number else claim_sum(plan_of(head, row).weights, after, len(values))
+        total, products = (0, 0) if number else claim_sum(plan_of(head, row).weights, after, len(after))
         self.answers(f"claims over the first {count} chances of {tuple(head)}, row of {len(row)}", number, *divmod(total, S), products)
 
     def write(self, head, row, room, fill=255):
@@ -156,11 +157,11 @@ class Calls:
 
     def read(self, data, room=None, fill=FULL_NUMBER):
         """With no room given, as many numbers as the head asks, or all that the program has."""
-        head, row, _ = read_bytes(data) if len(data) >= HEAD_BYTES else (Head(0, 0, 0), None, None)
+        head, row, _ = read_bytes(data) if len(data) >= HEAD_BYTES else (NO_HEAD, None, None)
         room = min(row_length(head), ROW) if room is None else room
         self.record("read", room=fitting(room, ROW), fill=fill, payload=data, length=fitting(len(data), BYTES))
         number = refusal(read_checks(data, room))
-        head, row = (Head(0, 0, 0), []) if number else (head, row)
+        head, row = (NO_HEAD, []) if number else (head, row)
         label = f"read {len(data)} bytes {data[:HEAD_BYTES].hex()}.. into a row of {room} holding {fill}"
         self.answers(label, number, *head, checksum(row + [fill] * (room - len(row))))
 
@@ -180,7 +181,7 @@ class SheetCalls:
     def read(self, data, room):
         self.record("read", data, fitting(room, ROW))
         number = refusal(sheet_checks(data, row_length, room))
-        head, row = (Head(0, 0, 0), []) if number else made_plan(data)
+        head, row = (NO_HEAD, []) if number else made_plan(data)
         self.answers(number, *head, *row, *[FULL_NUMBER] * (room - len(row)))
 
     def write(self, data, room):

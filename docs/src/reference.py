@@ -5,7 +5,9 @@ Written from these documents and their sources alone, not from the engine or its
 
   reference.py selftest           hold the rules against exact arithmetic on small plans and the funds worked by hand
   reference.py report             plan bytes on standard input, the reserve report on standard output
-  reference.py plan N U M ROW..   the plan bytes of a head and a row (chances, weights, over) on standard output
+  reference.py plan N U M C ROW.. the plan bytes of a head and a row (chances, weights, over) on standard output
+  reference.py renew              plan bytes from before a plan had an income on standard input, those of the same plan with income 1 on
+                                  standard output; nothing, and the refusal on standard error, where they are not an accepted plan's
   reference.py vectors DIR        DIR/stdin and DIR/stdout of the test program over the calls
   reference.py cases              one line for each line of that stdout: what was called
   reference.py repeat WORD K N    N times one question, failing in month K, the least opening for the target K or, whatever K, all openings, on the
@@ -30,6 +32,7 @@ import sys
 from pathlib import Path
 
 from cases import all_calls, repeated_calls, reported_bytes
+from old_plans import renewed
 from plans import EXAMPLE_BYTES, EXAMPLE_TEXT, timed_plans
 from records import plan_list
 from rules import Head, Question, byte_length, least_line, openings_text, refusal, report, target_of, write_bytes, write_checks
@@ -85,11 +88,19 @@ def whole(word):
     return int(word)
 
 
-def print_plan(n, u, m, *row):
-    number = refusal(write_checks(Head(n, u, m), row, math.inf))
+def print_plan(n, u, m, c, *row):
+    head = Head(n, u, m, c)
+    number = refusal(write_checks(head, row, math.inf))
     if number:
         sys.exit(f"refused {number}")
-    sys.stdout.buffer.write(write_bytes(Head(n, u, m), row))
+    sys.stdout.buffer.write(write_bytes(head, row))
+
+
+def print_renewed(data):
+    number, plan = renewed(data)
+    if number:
+        sys.exit(f"refused {number}")
+    sys.stdout.buffer.write(plan)
 
 
 def print_plan_of_sheet(data):
@@ -154,8 +165,10 @@ def main(words):
             return selftest()
         case ["report"]:
             sys.stdout.write(report(sys.stdin.buffer.read()))
-        case ["plan", n, u, m, *row] if row:
+        case ["plan", n, u, m, c, *row] if row:
             print_plan(*map(whole, words[1:]))
+        case ["renew"]:
+            print_renewed(sys.stdin.buffer.read())
         case ["cases"]:
             print_cases()
         case ["repeat", word, number, times, *plan] if len(plan) <= 1:

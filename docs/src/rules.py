@@ -9,14 +9,16 @@ from fractions import Fraction
 from itertools import accumulate, chain, pairwise
 
 S = 2**30
-MONTHS, OPENING, SIZES, CLAIMS, LEVEL = 120, 200, 320, 24, 320  # the limits of n, u, m, of k in both, of L in high and low
+MONTHS, OPENING, SIZES, INCOME, SPAN = 120, 200, 320, 8, 320  # the limits of n, u, m, c and of u + c × n
+CLAIMS, LEVEL = 24, 320  # those of k in both, of L in high and low
 PLACES = MONTHS + 1  # of the count row
 
-Head = namedtuple("Head", "months opening sizes")
+Head = namedtuple("Head", "months opening sizes income", defaults=[1])  # where none is said, the income is 1
 Plan = namedtuple("Plan", "head chances weights tail")  # the tail is the paper's "over"
 Question = namedtuple("Question", "word number")
 
-LARGEST = Head(MONTHS, OPENING, SIZES)
+NO_HEAD = Head(0, 0, 0, 0)  # what a refused reading answers
+LARGEST = Head(MONTHS, OPENING, SIZES)  # with one unit a month it comes to the largest span
 MOST_ASKED = Question("both", CLAIMS)  # what needs the largest workspace
 SURVIVE = Question("survive", 0)
 MOST = {"survive": math.inf, "both": CLAIMS, "high": LEVEL, "low": LEVEL}  # the largest number of a question
@@ -28,8 +30,13 @@ def plan_of(head, row):
     return Plan(head, row[:n], row[n : n + m], row[n + m])
 
 
+def levels_after(head, t):
+    """Those that the end of month t can come to, from 0 on."""
+    return range(head.opening + head.income * t + 1)
+
+
 def largest_level(head):
-    return head.opening + head.months
+    return head.opening + head.income * head.months
 
 
 def all_months(head):
@@ -43,7 +50,7 @@ def all_openings(head):
 
 # ---- Plan bytes
 
-WIDTHS = Head(7, 8, 9)  # "n in 7 bits, u in 8, m in 9"
+WIDTHS = Head(7, 8, 9, 4)  # "n in 7 bits, u in 8, m in 9", the income in "4 bits after the sizes"
 NUMBER_BITS = 31  # "then the row at 31 bits a number"
 HEAD_BITS = sum(WIDTHS)
 HEAD_BYTES = -(-HEAD_BITS // 8)  # fewer are a stub
@@ -83,7 +90,7 @@ def read_bytes(data):
     return head, fields(bits[HEAD_BITS:], [NUMBER_BITS] * row_length(head)), bits[bit_length(head) :]
 
 
-# ---- Turned away: an entry's checks go in the order of the table's numbers
+# ---- Turned away: an entry's checks go in the order of the table's numbers, and 16 and 17 come "after 4 in that order"
 
 
 def refusal(checks):
@@ -95,6 +102,8 @@ def head_checks(head):
     yield 2, head.months > MONTHS
     yield 3, head.opening > OPENING
     yield 4, head.sizes == 0 or head.sizes > SIZES
+    yield 16, head.income == 0 or head.income > INCOME
+    yield 17, largest_level(head) > SPAN
 
 
 def tail_checks(head, row):
@@ -188,18 +197,20 @@ def allowed(question, level):
     return True
 
 
-def claim_sum(weights, after, s):
-    """The sum of F_x × after(s + 1 − x) over the sizes x = min(s, m) .. 1 that are not empty, and "how many products it added"."""
-    largest = min(s, len(weights))
-    pairs = zip(reversed(weights[:largest]), after[s + 1 - largest :])  # from the largest size in range down
+def claim_sum(weights, after, level):
+    """The sum of F_x × after(level − x) over the sizes x = min(level − 1, m) .. 1 that are not empty, and "how many products it added". The level is
+    s + c, the one before the claim."""
+    largest = min(level - 1, len(weights))
+    pairs = zip(reversed(weights[:largest]), after[level - largest :])  # from the largest size in range down
     products = [weight * value for weight, value in pairs if weight != 0]
     return sum(products), len(products)
 
 
-def month(divide, weights, chance, quiet, claimed, s):
-    """The value at level s before a month, from the rows read without and with a claim: "the exact quotient by S × S, rounded once down or up"."""
-    claims, _ = claim_sum(weights, claimed, s)
-    return divide((S - chance) * S * quiet[s + 1] + chance * claims, S * S)
+def month(divide, weights, chance, quiet, claimed, level):
+    """The value before a month whose income brings the fund to this level, from the rows read without and with a claim: "the exact quotient by S ×
+    S, rounded once down or up"."""
+    claims, _ = claim_sum(weights, claimed, level)
+    return divide((S - chance) * S * quiet[level] + chance * claims, S * S)
 
 
 def last_rows(plan, question):
@@ -215,8 +226,8 @@ def month_back(plan, question, t, rows, divide):
     claimed = kept
     if question.word == "both":  # "a claim lowers it by one, and a claim with none left adds 0"
         claimed = [[0] * len(kept[0]), *kept[:-1]]
-    chance, levels = plan.chances[t - 1], range(plan.head.opening + t)
-    return [[month(divide, plan.weights, chance, *pair, s) for s in levels] for pair in zip(kept, claimed)]
+    chance, income, levels = plan.chances[t - 1], plan.head.income, levels_after(plan.head, t - 1)
+    return [[month(divide, plan.weights, chance, *pair, s + income) for s in levels] for pair in zip(kept, claimed)]
 
 
 def walked_back(plan, question, months, rows, divide):
@@ -239,9 +250,9 @@ def month_rule(plan, question, divide):
 
 
 def failing_row(plan, t, divide):
-    """The values before month t of failing in it, over the levels that it can begin at: P_t × (the sizes above the level, and over)."""
-    chance, levels = plan.chances[t - 1], range(plan.head.opening + t)
-    return [divide(chance * (sum(plan.weights[s:]) + plan.tail), S) for s in levels]
+    """The values before month t of failing in it, over the levels s that it can begin at: P_t × (the sizes of s + c or more, and over)."""
+    chance, income, levels = plan.chances[t - 1], plan.head.income, levels_after(plan.head, t - 1)
+    return [divide(chance * (sum(plan.weights[s + income - 1 :]) + plan.tail), S) for s in levels]
 
 
 def failure_rule(plan, t, divide):
@@ -289,7 +300,7 @@ OPENING_LINE = "opening %d %d %d"  # an opening and its bounds, as programs prin
 
 
 def opened(plan, opening):
-    """The same plan with another opening."""
+    """The same plan, its income too, with another opening."""
     return plan._replace(head=plan.head._replace(opening=opening))
 
 
@@ -363,7 +374,7 @@ def line_numbers(head):
     """The numbers of each question's lines, in the report's order."""
     yield "both", range(min(head.months, CLAIMS) + 1)
     yield "high", range(1, largest_level(head) + 1)
-    yield "low", range(1, head.opening + 2)
+    yield "low", range(1, head.opening + head.income + 1)
 
 
 def failure_lines(plan):
@@ -374,7 +385,7 @@ def failure_lines(plan):
 
 
 def report_lines(plan):
-    yield "months %d opening %d sizes %d" % plan.head
+    yield "months %d opening %d sizes %d income %d" % plan.head
     yield "survive %d %d" % bounds(plan, SURVIVE)
     for k, pair in zip(range(plan.head.months + 1), zip(count_row(plan, down), count_row(plan, up))):
         yield "claims %d %d %d" % (k, *pair)

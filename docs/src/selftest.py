@@ -10,12 +10,13 @@ from functools import cache
 from exact import carried_counts, carried_failures, carried_weight, claim_chance, count_weight, encloses, failure_weight, first_claim_both
 from exact import first_claim_survival, keeps_gap, level_kept, outcomes, question_weight
 from moves import chances_apart, difference, more_months
+from old_plans import renewed, write_old
 from plans import EXAMPLE, EXAMPLE_BYTES, EXAMPLE_TEXT, ONE_SIZE, WORKED, changed, flat, gapped, geometric_plan, lasting_plan, questions, some_chance
 from plans import some_plan, split, timed_plans
-from rules import CLAIMS, LARGEST, MONTHS, MOST_ASKED, OPENING, PLACES, S, SIZES, SURVIVE, Head, Question, all_months, all_openings, ask_checks
-from rules import bounds, byte_length, claim_sum, count_row, down, failure_bounds, failure_checks, failure_rule, largest_level, last_rows
+from rules import CLAIMS, INCOME, LARGEST, MONTHS, MOST_ASKED, OPENING, PLACES, S, SIZES, SPAN, SURVIVE, Head, Question, all_months, all_openings
+from rules import ask_checks, bounds, byte_length, claim_sum, count_row, down, failure_bounds, failure_checks, failure_rule, largest_level, last_rows
 from rules import least_answer, least_line, month_back, month_rule, opened, opening_pairs, openings_answer, openings_text, plan_checks, plan_of
-from rules import read_bytes, refusal, report, row_length, target_of, totals, unrounded, up, walked_pairs, workspace_needed, write_bytes
+from rules import read_bytes, read_checks, refusal, report, row_length, target_of, totals, unrounded, up, walked_pairs, workspace_needed, write_bytes
 from sheet_cases import DOUBLES, EXAMPLE_SHEET, HALF, INFINITE, LEVEL, LONE, NANS, NO_TAIL, ONE, RAMP, WORKED_SHEETS, accepted, brief_head
 from sheet_cases import decimal_ramps, some_share, some_sheet, telling_ramps, with_double
 from sheets import LEVEL_KIND, SHEET_BYTES, SIGN, claim_weights, finite, head_of, last_place, made_plan, parts, pattern, plan_row, plus, power
@@ -39,19 +40,21 @@ class Tally:
         print("failed" if self.failed else "ok")
 
 
-def rising_claim_sum(weights, after, s):
-    """Document 01's: "the sum over x from 1 to the lesser of s and m of F_x × V_t(s + 1 − x)"."""
-    return sum(weights[x - 1] * after[s + 1 - x] for x in range(1, min(s, len(weights)) + 1))
+def rising_claim_sum(weights, after, s, c):
+    """Document 01's, with document 02's income: the sum over x from 1 to "the lesser of s + c − 1 and m" of F_x × V_t(s + c − x)."""
+    return sum(weights[x - 1] * after[s + c - x] for x in range(1, min(s + c - 1, len(weights)) + 1))
 
 
 def check_claim_sums(tally, rng, weights):
     """Every range of sizes, from none to past the table's end, on a row of random values. A product may be 0 though its size is not empty."""
     after = [some_chance(rng) for _ in range(len(weights) + 3)]
-    for s in range(len(after)):
-        total, products = claim_sum(weights, after, s)
-        tally.check("claim sum is document 01's", total == rising_claim_sum(weights, after, s), (weights, after, s))
-        filled = sum(weight > 0 for weight in weights[:s])
-        tally.check("claim sum: products are the sizes with a weight above 0", products == filled, (weights, after, s))
+    for level in range(1, len(after) + 1):
+        total, products = claim_sum(weights, after, level)
+        about = weights, after, level
+        sums = {rising_claim_sum(weights, after, level - c, c) for c in range(1, min(level, INCOME) + 1)}
+        tally.check("claim sum is document 01's, whatever the income", sums == {total}, about)
+        filled = sum(weight > 0 for weight in weights[: level - 1])
+        tally.check("claim sum: products are the sizes with a weight above 0", products == filled, about)
 
 
 def claim_tables(rng):
@@ -91,6 +94,8 @@ def check_question(tally, plan, listed, question):
     check_bounds(tally, "questions", plan, plan.head.months, weight, bounds(plan, question), about)
     tally.check("histories carried together weigh W", carried_weight(plan, question) == weight, about)
     tally.check("unrounded month rule is W", month_rule(plan, question, unrounded) * whole == weight * S, about)
+    if plan.head.income != 1:  # the published recursions are for an income of 1 alone
+        return
     if question.word == "survive":
         tally.check("Theorem 2.1 is W", first_claim_survival(p, f, opening) * whole == weight, about)
     if question.word == "both":
@@ -160,8 +165,9 @@ def plain_values(plan, divide):
     def value(t, s):
         if t == plan.head.months:
             return S
-        chance, claims = plan.chances[t], sum(weight * value(t + 1, s + 1 - x) for x, weight in enumerate(plan.weights[:s], 1))
-        return divide((S - chance) * S * value(t + 1, s + 1) + chance * claims, S**2)
+        chance, level = plan.chances[t], s + plan.head.income
+        claims = sum(weight * value(t + 1, level - x) for x, weight in enumerate(plan.weights[: level - 1], 1))
+        return divide((S - chance) * S * value(t + 1, level) + chance * claims, S**2)
 
     return [value(0, opening) for opening in all_openings(plan.head)]
 
@@ -246,10 +252,21 @@ REFUSED_PLANS = [  # each is also wrong in what comes after its number
     (3, Head(2, OPENING + 1, 0), []),
     (4, Head(2, 3, 0), []),
     (4, Head(2, 3, SIZES + 1), []),
+    (4, Head(2, 3, 0, 0), []),
+    (4, Head(MONTHS, 3, SIZES + 1, 3), []),
+    *((16, Head(MONTHS, OPENING, 2, c), []) for c in (0, 9, 15, 16, 17, 2**32 + 1, 2**64 - 1)),
+    (16, Head(2, 3, 2, 0), [S + 1, 0, 0, 1]),
+    (17, Head(MONTHS, OPENING, 2, 2), []),
+    (17, Head(40, 1, 2, 8), []),
+    (17, Head(41, 0, 2, 8), [S] * 44),
+    (17, Head(MONTHS, 81, 2, 2), [S + 1] * MONTHS + [0, 0, 1]),
+    (5, Head(40, 0, 2, 8), []),
+    (5, Head(MONTHS, 80, 2, 2), []),
     (5, Head(2, 3, 2), [S + 1, 0, 0, 1]),
     (7, Head(2, 3, 2), [S + 1, 0, 0, 0, 1]),
     (8, Head(2, 3, 2), [S, 0, 0, 0, 1]),
     (9, Head(2, 3, 2), [S, 0, S - 1, 0, 1]),
+    (9, Head(2, 1, 3, 2), [S, 0, S - 1, 0, 0, 1]),
 ]
 
 TARGET_WORDS = [
@@ -262,7 +279,8 @@ LEAST_LINES = [
     (EXAMPLE_BYTES, 402653185, "opening 1 738197504 738197504\n"),
     (EXAMPLE_BYTES, S, "refused 15\n"),
     (EXAMPLE_BYTES, 0, "refused 14\n"),
-    (EXAMPLE_BYTES[:2], 0, "refused 1\n"),
+    (EXAMPLE_BYTES[:3], 0, "refused 1\n"),
+    (EXAMPLE_BYTES[:4], 0, "refused 5\n"),
     (EXAMPLE_BYTES[:-1], 0, "refused 5\n"),
     (EXAMPLE_BYTES[:-1] + b"\1", 0, "refused 6\n"),
 ]
@@ -300,8 +318,9 @@ def check_all_openings(tally, plan):
 
 def check_wide_walks(tally, rng):
     """One walk against asking on plans of many openings and wide tables."""
-    for n, u, m in ((0, OPENING, SIZES), (1, OPENING, SIZES), (3, OPENING, 9), (5, 60, SIZES), (40, 30, 50)):
-        for plan in (plan_of(*some_plan(rng, n, u, m)), plan_of(*lasting_plan(rng, n, u, m))):
+    of_one = (0, OPENING, SIZES, 1), (1, OPENING, SIZES, 1), (3, OPENING, 9, 1), (5, 60, SIZES, 1), (40, 30, 50, 1)
+    for head in (*of_one, (3, 60, SIZES, 8), (20, 30, 50, 3), (15, 40, 100, 8)):
+        for plan in (plan_of(*some_plan(rng, *head)), plan_of(*lasting_plan(rng, *head))):
             tally.check("all openings: by one walk, wide tables", opening_pairs(plan) == walked_pairs(plan), plan)
 
 
@@ -314,12 +333,15 @@ ROWS_BY_HAND = [  # each plan's bounds in the lent row, worked by hand
     (Head(1, 2, 1), [S // 2] + ONE_SIZE, [S // 2, S // 2, S, S, S, S]),
     (Head(1, 1, 2), [1, 1, S - 1, 0], [S - 1, S - 1, S - 1, S]),  # a claim ruins at 0, and at 1 with all but one part of its weight
     (Head(2, 3, 2), [S, S, 0, S, 0], [0, 0, 0, 0, 0, 0, S, S]),  # a unit less in each month
+    (Head(2, 3, 4, 3), [S, S, 0, 0, 0, S, 0], [0, 0, 0, 0, 0, 0, S, S]),  # likewise
+    (Head(1, 2, 4, 2), [S // 2, 0, 0, S, 0, 0], [S // 2, S // 2, S // 2, S // 2, S, S]),  # a claim of 3 leaves one unit of 2 + 2
+    (Head(1, 1, 8, 8), [S // 2] + [0] * 7 + [S, 0], [S // 2, S // 2, S, S]),
 ]
 
 
 def check_lent_row(tally, head, row, by_hand):
     """Lengths around what is needed, of the workspace and of the row: 11 for either, and what lies past the bounds stays."""
-    needed, places = 2 * (head.opening + head.months + 1), len(by_hand)
+    needed, places = 2 * (head.opening + head.income * head.months + 1), len(by_hand)
     rooms, lengths = (0, needed - 1, needed, needed + 1), (0, places - 1, places, places + 1, places + 9)
     for room, length, held in itertools.product(rooms, lengths, (0, 7, 2**32 - 1)):
         before, enough = [held] * length, room >= needed and length >= places
@@ -332,15 +354,19 @@ OPENINGS_TEXTS = [
     (write_bytes(*flat(0, 0, 1)), f"opening 0 {S} {S}\n"),
     (write_bytes(Head(1, 1, 2), [1, 1, S - 1, 0]), "opening 0 1073741823 1073741823\nopening 1 1073741823 1073741824\n"),
     (b"", "refused 1\n"),
-    (EXAMPLE_BYTES[:2], "refused 1\n"),
+    (EXAMPLE_BYTES[:3], "refused 1\n"),
+    (EXAMPLE_BYTES[:4], "refused 5\n"),
+    (write_bytes(Head(1, 1, 1, 2), [S] + ONE_SIZE), f"opening 0 {S} {S}\nopening 1 {S} {S}\n"),
     (EXAMPLE_BYTES[:-1], "refused 5\n"),
     (EXAMPLE_BYTES[:-1] + b"\1", "refused 6\n"),
     (write_bytes(*flat(MONTHS + 1, 0, 1)), "refused 2\n"),
     (write_bytes(*flat(0, OPENING + 1, 1)), "refused 3\n"),
     (write_bytes(*flat(0, 0, SIZES + 1)), "refused 4\n"),
+    *((write_bytes(*flat(MONTHS, OPENING, 1, c)), "refused 16\n") for c in (0, 9, 15)),
+    (write_bytes(*flat(40, 1, 1, 8))[:4], "refused 17\n"),
     (write_bytes(Head(1, 1, 1), [S + 1, S, 0]), "refused 7\n"),
     (write_bytes(Head(1, 1, 1), [S, S, 1]), "refused 8\n"),
-    (write_bytes(*flat(1, 3, 2, 1)), "refused 9\n"),
+    (write_bytes(*flat(1, 3, 2, tail=1)), "refused 9\n"),
 ]
 
 
@@ -401,16 +427,17 @@ def check_moves(tally, plans, asked):
 
 def check_sum_met(tally):
     """A fund that every claim ruins, with a claim in no month but one: every part of that month's chance moves the exact answers and the bounds."""
-    head = Head(4, 0, 4)
-    for t, chances in itertools.product(all_months(head), itertools.permutations((0, 1, S // 3, S), 2)):
-        plans = [plan_of(head, changed([0] * 4, t - 1, chance) + [0, 0, 0, S, 0]) for chance in chances]
+    cases = itertools.product((1, 3, 8), range(1, 5), itertools.permutations((0, 1, S // 3, S), 2))
+    for c, t, chances in cases:
+        head = Head(4, 0, 4 * c, c)
+        plans = [plan_of(head, changed([0] * 4, t - 1, chance) + [0] * (4 * c - 1) + [S, 0]) for chance in chances]
         apart, whole = difference(*chances), S ** (2 * head.months)
         weights = [(carried_weight(plan, SURVIVE), carried_counts(plan)[1], carried_failures(plan)[t]) for plan in plans]
         for pair in zip(*weights):
-            tally.check("the sum is met exactly", difference(*pair) * S == apart * whole, (t, chances, pair))
+            tally.check("the sum is met exactly", difference(*pair) * S == apart * whole, (c, t, chances, pair))
         for divide in (down, up):
             values = [(month_rule(plan, SURVIVE, divide), count_row(plan, divide)[1], failure_rule(plan, t, divide)) for plan in plans]
-            tally.check("the sum is met by both bounds", all(difference(*pair) == apart for pair in zip(*values)), (t, chances, values))
+            tally.check("the sum is met by both bounds", all(difference(*pair) == apart for pair in zip(*values)), (c, t, chances, values))
 
 
 def check_rising(tally, plan):
@@ -435,7 +462,7 @@ def check_plan(tally, plan):
 
 
 def check_long_plan(tally, plan):
-    """A plan of as many months as there can be."""
+    """A plan of as many months as there can be with its income, or of many."""
     top, months = largest_level(plan.head), plan.head.months
     levels = (Question(word, level) for word in ("high", "low") for level in (1, 2, plan.head.opening, top // 2, top - 1))
     for question in (SURVIVE, Question("both", 1), Question("both", CLAIMS), *levels):
@@ -444,6 +471,77 @@ def check_long_plan(tally, plan):
     for k, pair in enumerate(zip(count_row(plan, down), count_row(plan, up))):
         check_bounds(tally, "long plans, count row", plan, months, counts[k], pair, (plan, k))
     check_failures(tally, "long plans, failures", plan, carried_failures(plan), carried_weight(plan, SURVIVE))
+
+
+SEVERAL_UNITS = Head(1, 0, 2, 2), [S // 2] * 3 + [0]  # two units a month, of which a claim of 1 leaves one and a claim of 2 none
+SEVERAL_TEXT = """months 1 opening 0 sizes 2 income 2
+survive 805306368 805306368
+claims 0 536870912 536870912
+claims 1 536870912 536870912
+both 0 536870912 536870912
+both 1 268435456 268435456
+high 1 268435456 268435456
+high 2 805306368 805306368
+low 1 805306368 805306368
+low 2 536870912 536870912
+fails 1 268435456 268435456
+fails all 268435456 268435456
+"""
+
+FAILURES_BY_HAND = [  # a plan, and the chance of failing in each of its months, in parts
+    (Head(1, 0, 1, 2), [S // 2, S, 0], [0]),
+    (Head(1, 0, 2, 2), [S // 2, 0, S, 0], [S // 2]),
+    (Head(1, 1, 2, 2), [S // 2, 0, S, 0], [0]),
+    (Head(2, 0, 3, 2), [S, S, S // 2, 0, S // 2, 0], [S // 2, S // 4]),  # 2 less 1 or 3, then 3 less 1 or 3
+    (Head(2, 0, 15, 8), [S // 2, S, *[0] * 7, S // 2, *[0] * 7, S // 2], [S // 2, S // 4]),  # half of the claims are over, the others of 8
+]
+
+
+def check_several_units(tally):
+    text = report(write_bytes(*SEVERAL_UNITS))
+    tally.check("report with several units: text", text == SEVERAL_TEXT, text)
+    for head, row, parts_by_month in FAILURES_BY_HAND:
+        got = [failure_bounds(plan_of(head, row), t) for t in all_months(head)]
+        tally.check("failures with several units, by hand", got == [(part, part) for part in parts_by_month], (head, row, got))
+    for c in range(1, INCOME + 1):
+        n = min(MONTHS, SPAN // c)
+        u = SPAN - c * n
+        got = [refusal(plan_checks(*flat(*head, c))) for head in ((n, u, 1), (n, u + 1, 1))]
+        tally.check("spans", got == ([0, 3] if c == 1 else [0, 17]), (n, u, c, got))
+
+
+# ---- Old plan files
+
+OLD_EXAMPLE = bytes.fromhex("04 02 02 40 00 00 00 80 00 00 01 00 00 00 02" + 8 * " 00")  # document 01's own
+
+REFUSED_OLD = [
+    (1, b""),
+    (1, OLD_EXAMPLE[:2]),
+    (2, write_old(*flat(MONTHS + 1, OPENING + 1, 1))),
+    (3, write_old(*flat(2, OPENING + 1, SIZES + 1))),
+    (4, write_old(*flat(2, 3, SIZES + 1))[:3]),
+    (4, write_old(Head(2, 3, 0), [S, S, S])),
+    (5, OLD_EXAMPLE[:3]),
+    (5, OLD_EXAMPLE[:-1]),
+    (5, OLD_EXAMPLE + b"\0"),
+    (6, OLD_EXAMPLE[:-1] + b"\1"),
+    (7, write_old(Head(1, 1, 1), [S + 1, S, 1])),
+    (8, write_old(Head(1, 3, 1), [S, S, 1])),
+    (9, write_old(*flat(1, 3, 2, tail=1))),
+]
+
+
+def check_old_plan(tally, plan):
+    tally.check("old plans, renewed", renewed(write_old(*plan)) == (0, write_bytes(*plan)), plan)
+
+
+def check_old_plans(tally):
+    """The small plans of income 1 are renewed as well."""
+    tally.check("old plans: the example", write_old(*EXAMPLE) == OLD_EXAMPLE and renewed(OLD_EXAMPLE) == (0, EXAMPLE_BYTES), OLD_EXAMPLE.hex())
+    for plan in (flat(0, 0, 1), flat(1, 2, 2, tail=1), flat(MONTHS, OPENING, 1), flat(0, OPENING, SIZES), *timed_plans().values()):
+        check_old_plan(tally, plan)
+    for number, data in REFUSED_OLD:
+        tally.check("old plans: refusals", renewed(data) == (number, b""), (number, data.hex()))
 
 
 def check_paper(tally):
@@ -459,7 +557,8 @@ def check_paper(tally):
     for t, room, number in ((0, 8, 10), (1, 8, 0), (2, 8, 0), (3, 8, 10), (0, 0, 10), (1, 7, 11), (2, 7, 11), (3, 0, 10)):
         tally.check("failures of the example: refusals", refusal(failure_checks(*EXAMPLE, t, room)) == number, (t, room))
     tally.check("count row", PLACES == 121, f"{PLACES} places")
-    tally.check("longest plan", byte_length(LARGEST) == 1712, f"{byte_length(LARGEST)} bytes")
+    tally.check("longest plan", byte_length(LARGEST) == 1713, f"{byte_length(LARGEST)} bytes")
+    tally.check("stub", [refusal(read_checks(bytes(length), 0)) for length in range(5)] == [1, 1, 1, 1, 4], "fewer than 4 bytes")
     largest = 4 * workspace_needed(LARGEST, MOST_ASKED)
     tally.check("largest workspace", largest == 64200, f"{largest} bytes")
 
@@ -601,10 +700,27 @@ def check_sheets(tally, rng):
         check_many_sheets(tally, rng)
 
 
+def small_plans(rng):
+    """Of one unit a month."""
+    for _ in range(300):
+        yield some_plan(rng, rng.randrange(5), rng.randrange(6), rng.randrange(1, 5))
+
+
+def small_income_plans(rng):
+    """Of two or three units a month, then of up to the most, with claims that can ruin."""
+    for _ in range(200):
+        yield some_plan(rng, rng.randrange(4), rng.randrange(4), rng.randrange(1, 9), rng.randint(2, 3))
+    for c in range(4, INCOME + 1):
+        for _ in range(8):
+            yield some_plan(rng, rng.randint(1, 2), rng.randrange(3), rng.randint(c, 2 * c + 2), c)
+
+
 def selftest():
     """Whether a check failed."""
     tally, rng, own = Tally(), random.Random(2), random.Random(6)  # the claim sums have random numbers of their own
     check_paper(tally)
+    check_several_units(tally)
+    check_old_plans(tally)
     check_sheets(tally, random.Random(9))
     for weights in claim_tables(own):
         check_claim_sums(tally, own, weights)
@@ -613,10 +729,11 @@ def selftest():
     check_openings_numbers(tally)
     check_wide_walks(tally, random.Random(39))
     targets, others = random.Random(21), random.Random(33)
-    for _ in range(300):
-        head, row = some_plan(rng, rng.randrange(5), rng.randrange(6), rng.randrange(1, 5))
+    for head, row in itertools.chain(small_plans(rng), small_income_plans(random.Random(45))):
         tally.check("accepted", refusal(ask_checks(head, row, SURVIVE, math.inf)) == 0, (head, row))
         tally.check("bytes there and back", read_bytes(write_bytes(head, row))[:2] == (head, row), (head, row))
+        if head.income == 1:
+            check_old_plan(tally, (head, row))
         check_claim_sums(tally, own, plan_of(head, row).weights)
         check_plan(tally, plan_of(head, row))
         check_least_openings(tally, targets, plan_of(head, row))
@@ -625,13 +742,13 @@ def selftest():
         for other in other_plans(others, plan_of(head, row)):
             check_moves(tally, (plan_of(head, row), other), questions(head))
     check_sum_met(tally)
-    for u, m in ((0, 2), (3, 5), (7, 1)):
-        plan = plan_of(*lasting_plan(rng, MONTHS, u, m))
+    for n, u, m, c in ((MONTHS, 0, 2, 1), (MONTHS, 3, 5, 1), (MONTHS, 7, 1, 1), (MONTHS, 3, 6, 2), (SPAN // INCOME, 0, 24, INCOME)):
+        plan = plan_of(*lasting_plan(rng, n, u, m, c))
         check_long_plan(tally, plan)
         check_least_openings(tally, targets, plan)
         check_all_openings(tally, plan)
         check_rising(tally, plan)
         for other in other_plans(others, plan):
-            check_moves(tally, (plan, other), [SURVIVE, Question("both", 1), Question("high", u + 9), Question("low", 2)])
+            check_moves(tally, (plan, other), [SURVIVE, Question("both", 1), Question("high", u + 9 * c), Question("low", 2)])
     tally.print()
     return bool(tally.failed)

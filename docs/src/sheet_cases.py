@@ -256,8 +256,8 @@ def drawn_sheet(rng, head):
     if head.sizes + 1 < largest_level(head):
         alpha = rng.choice([Fraction(0), power(-54), power(-1074)])
     if rng.randrange(2):
-        return Sheet(LEVEL_KIND, *head, near(rng, first), rng.choice([0, SIGN]), near(rng, alpha))
-    return Sheet(RAMP_KIND, *head, near(rng, first), near(rng, (last - first) / max(head.months - 1, 1)), near(rng, alpha))
+        return Sheet(LEVEL_KIND, *head[:3], near(rng, first), rng.choice([0, SIGN]), near(rng, alpha))
+    return Sheet(RAMP_KIND, *head[:3], near(rng, first), near(rng, (last - first) / max(head.months - 1, 1)), near(rng, alpha))
 
 
 def some_sheet(rng, head):
@@ -369,10 +369,10 @@ def add_reports(calls):
     for k, u in itertools.product(range(1, 5), (4, 8)):
         head, share = Head(12, u, 20), pattern(Fraction(k, 100))
         plan = geometric_plan(head, Fraction(9, 10), lambda i: Fraction(k * i, 100))
-        calls.report(write_sheet(Sheet(RAMP_KIND, *head, share, share, decimal("0.9"))), plan)
+        calls.report(write_sheet(Sheet(RAMP_KIND, *head[:3], share, share, decimal("0.9"))), plan)
     for head in (Head(6, 3, 8), Head(0, 3, 8), Head(5, 7, 35)):
         plan = geometric_plan(head, Fraction(1, 2), lambda i: Fraction(1, 4))
-        calls.report(write_sheet(Sheet(LEVEL_KIND, *head, decimal("0.25"), 0, HALF)), plan)
+        calls.report(write_sheet(Sheet(LEVEL_KIND, *head[:3], decimal("0.25"), 0, HALF)), plan)
     for sheet, length, _ in (fault(Entry(NO_TAIL)) for fault in FAULTS[:-1]):
         calls.refused_report((write_sheet(sheet) * 2)[:length])
 
@@ -394,8 +394,8 @@ def all_sheet_calls():
     for sheet in (LEVEL, RAMP):
         add_flips(calls, sheet)
     for head in (Head(0, 0, 1), head_of(RAMP), LARGEST):
-        add_rooms(calls, RAMP._replace(**head._asdict(), step=decimal("0.005"), alpha=decimal("0.98")))
-    add_entries(calls, [Entry(LEVEL._replace(**LARGEST._asdict(), alpha=decimal("0.995")))], add_read, add_write)
+        add_rooms(calls, Sheet(RAMP_KIND, *head[:3], RAMP.first, decimal("0.005"), decimal("0.98")))
+    add_entries(calls, [Entry(Sheet(LEVEL_KIND, *LARGEST[:3], LEVEL.first, 0, decimal("0.995")))], add_read, add_write)
     add_random(calls, rng)
     add_reports(calls)
     return calls

@@ -92,7 +92,8 @@ def write_sheet(sheet):
 
 
 def head_of(sheet):
-    return Head(sheet.months, sheet.opening, sheet.sizes)
+    """"Sheets make plans with c = 1"."""
+    return Head(sheet.months, sheet.opening, sheet.sizes, income=1)
 
 
 def rule_of(sheet):

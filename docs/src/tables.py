@@ -4,8 +4,8 @@
   tables.py DIR     DIR/stdin, the plans of the tables, and DIR/stdout, the printed figures
 
 The figures are transcribed; no rule of the engine is used. A plan's chances and weights are the table's, rounded down to parts of 2^30, with
-as many sizes as opening and months together, and over for the rest. A line of stdout has a plan's figure in ten-thousandths twice, since both
-bounds round to it.
+as many sizes as opening and months together, over for the rest, and an income of 1. A line of stdout has a plan's figure in ten-thousandths
+twice, since both bounds round to it.
 Left out: case C3 at u = 8, alpha = 4/5, which the source misprints in every row. Its first figure would be 0.9 + 0.1 x (1 - 0.8^8) = 0.9832 and
 is printed as 0.9966.
 """
@@ -49,7 +49,7 @@ def main(folder):
     plans, lines = [], ""
     for (u, alpha, case), figures in FIGURES.items():
         for n, figure in enumerate(figures, 1):
-            plans.append(write_bytes(*geometric_plan(Head(n, u, u + n), alpha, CASES[case])))
+            plans.append(write_bytes(*geometric_plan(Head(n, u, u + n, income=1), alpha, CASES[case])))
             lines += f"{figure} {figure}\n"
     (folder / "stdin").write_bytes(plan_list(plans))
     (folder / "stdout").write_text(lines)

@@ -18,7 +18,7 @@ use Rattle.calls.proofs.TwoCalls.{survival-answers-rise}
 -- two openings of one plan
 pub opened-grows : (h : Head) (row : List ℕ) (v w : ℕ) → v ≤ w → OnlyOpeningGrows (plan-of (opened h v) row) (plan-of (opened h w) row)
 unfolding plan-of
-opened-grows h row v w l = record { opening = l; chances = refl; severity = refl; tail = refl }
+opened-grows h row v w l = record { opening = l; income = refl; chances = refl; severity = refl; tail = refl }
 
 module _ (h : Head) (row : List ℕ) (target room : ℕ) (found : least-answer h row target room .refusal ≡ 0) where
   abbrev r : LeastAnswer

@@ -9,7 +9,7 @@ use borrow.Author.Tests.{ltb-true, ltb-false}
 use lib.Dec.{ltb}
 use lib.ListN.{length, take, drop, length-take, length-drop, take-append-drop}
 use lib.Seq.{take-all, length-take-le, take-append-le, drop-append-le}
-use Rattle.model.specs.Format.{months-width, opening-width, sizes-start, sizes-width, head-bits, head-bytes, bits, number, bits-of, head-of}
+use Rattle.model.specs.Format.{months-width, opening-width, sizes-start, sizes-width, income-start, income-width, head-bits, head-bytes, bits, number, bits-of, head-of}
 use Rattle.model.specs.Refusal.{first, head-checks, read-refusal}
 use Rattle.model.specs.Figures.{longest-plan}
 use Rattle.model.proofs.Rooms.{byte-length-fits, longest-between, figures}
@@ -55,6 +55,7 @@ head-first xs ys whole =
       months = number (within-first 0 months-width (bits-of xs) (bits-of ys) (omega (arith, long)) i);
       opening = number (within-first months-width opening-width (bits-of xs) (bits-of ys) (omega (arith, long)) i);
       sizes = number (within-first sizes-start sizes-width (bits-of xs) (bits-of ys) (omega (arith, long)) i);
+      income = number (within-first income-start income-width (bits-of xs) (bits-of ys) (omega (arith, long)) i);
     })
 
 same-head : (bytes : List ℕ) (most : ℕ) → head-bytes ≤ length bytes → head-bytes ≤ most → head-of (take most bytes) ≡ head-of bytes

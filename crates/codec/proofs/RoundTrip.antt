@@ -12,7 +12,7 @@ use Rattle.model.specs.declared.Head.{Head}
 use Rattle.model.specs.Scale.{S}
 use Rattle.model.specs.Sums.{any}
 use Rattle.model.specs.Plan.{row-length}
-use Rattle.model.specs.Format.{months-width, opening-width, sizes-start, sizes-width, number-width, bits, number, fields, head-bits, plan-bits, bit-length, byte-length, filled-bits, bytes-of, bits-of, head-of, row-of, fill-of}
+use Rattle.model.specs.Format.{months-width, opening-width, sizes-start, sizes-width, income-start, income-width, number-width, bits, number, fields, head-bits, plan-bits, bit-length, byte-length, filled-bits, bytes-of, bits-of, head-of, row-of, fill-of}
 use Rattle.model.specs.Refusal.{first, head-checks, plan-refusal, Accepted}
 use Rattle.model.proofs.Facts.{Facts, facts, accepted-head}
 use Rattle.plan_bits.proofs.Fields.{Bits, after-first, length-bits, number-bits, bits-field, bits-drop, flat-fields, fields-flat, length-fields}
@@ -50,14 +50,17 @@ module _ (h : Head) (row : List ℕ) (ok : Accepted h row) where
       flat-fields 8 (byte-length h) (filled-bits h row) (le-of-eq (sym whole)) (bits-filled h row)
       ∙ take-all (8 * byte-length h) (filled-bits h row) (le-of-eq whole)
 
+  after-sizes : List ℕ
+  after-sizes = bits income-width (h .income) ++ (flatMap (bits number-width) row ++ zeros)
+
   after-opening : List ℕ
-  after-opening = bits sizes-width (h .sizes) ++ (flatMap (bits number-width) row ++ zeros)
+  after-opening = bits sizes-width (h .sizes) ++ after-sizes
 
   after-months : List ℕ
   after-months = bits opening-width (h .opening) ++ after-opening
 
   filled-fields : filled-bits h row ≡ bits months-width (h .months) ++ after-months
-  unfolding filled-bits plan-bits after-months after-opening zeros
+  unfolding filled-bits plan-bits after-months after-opening after-sizes zeros
   filled-fields = simp append-assoc
 
   written-fields : bits-of (bytes-of h row) ≡ bits months-width (h .months) ++ after-months
@@ -73,12 +76,19 @@ module _ (h : Head) (row : List ℕ) (ok : Accepted h row) where
       ∙ ap (drop opening-width) drop-months
       ∙ drop-at (bits opening-width (h .opening)) after-opening opening-width (length-bits opening-width _)
 
-  drop-head : drop head-bits (bits-of (bytes-of h row)) ≡ flatMap (bits number-width) row ++ zeros
-  unfolding after-opening head-bits
-  drop-head =
+  drop-sizes : drop income-start (bits-of (bytes-of h row)) ≡ after-sizes
+  unfolding after-opening
+  drop-sizes =
       sym (drop-drop sizes-width sizes-start (bits-of (bytes-of h row)))
       ∙ ap (drop sizes-width) drop-opening
-      ∙ drop-at (bits sizes-width (h .sizes)) (flatMap (bits number-width) row ++ zeros) sizes-width (length-bits sizes-width _)
+      ∙ drop-at (bits sizes-width (h .sizes)) after-sizes sizes-width (length-bits sizes-width _)
+
+  drop-head : drop head-bits (bits-of (bytes-of h row)) ≡ flatMap (bits number-width) row ++ zeros
+  unfolding after-sizes head-bits
+  drop-head =
+      sym (drop-drop income-width income-start (bits-of (bytes-of h row)))
+      ∙ ap (drop income-width) drop-sizes
+      ∙ drop-at (bits income-width (h .income)) (flatMap (bits number-width) row ++ zeros) income-width (length-bits income-width _)
 
   -- what is written reads back the same head and row
   months-back : number (take months-width (bits-of (bytes-of h row))) ≡ h .months
@@ -92,9 +102,13 @@ module _ (h : Head) (row : List ℕ) (ok : Accepted h row) where
   unfolding after-opening
   sizes-back = ap (λ l. number (take sizes-width l)) drop-opening ∙ field-back sizes-width _ _ (omega (arith, known .head .sizes-fit))
 
+  income-back : number (take income-width (drop income-start (bits-of (bytes-of h row)))) ≡ h .income
+  unfolding after-sizes
+  income-back = ap (λ l. number (take income-width l)) drop-sizes ∙ field-back income-width _ _ (omega (arith, known .head .income-fits))
+
   pub head-back : head-of (bytes-of h row) ≡ h
   unfolding head-of
-  head-back = λ i. record { months = months-back i; opening = opening-back i; sizes = sizes-back i }
+  head-back = λ i. record { months = months-back i; opening = opening-back i; sizes = sizes-back i; income = income-back i }
 
   pub row-back : row-of (bytes-of h row) ≡ row
   unfolding row-of head-bits S
@@ -144,9 +158,12 @@ module _ (bytes : List ℕ) (room : ℕ) (are-bytes : (i : ℕ) → getD bytes i
   plan-bits-back =
       ap₂ _++_
       (ap₂ _++_
+      (ap₂ _++_
       (ap₂ _++_ (field-of 0 months-width (omega arith)) (field-of months-width opening-width (omega arith)) ∙ sym (take-add months-width opening-width all))
       (field-of sizes-start sizes-width (omega arith))
       ∙ sym (take-add sizes-start sizes-width all))
+      (field-of income-start income-width (omega arith))
+      ∙ sym (take-add income-start income-width all))
       (flat-fields number-width count (drop head-bits all) (rw length-drop (omega (arith, inside))) (bits-drop head-bits all (bits-bits-of bytes)))
       ∙ sym (take-add head-bits (number-width * count) all)
 

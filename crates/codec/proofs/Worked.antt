@@ -1,4 +1,4 @@
--- The plan bytes that document 01 gives for the report: the definitions are computed.
+-- The plan bytes of the report, as document 02 gives them: the definitions are computed.
 use Prim.Native.Nat.{ℕ, _^_, _≤_}
 use mathlib.Core.Path.{_≡_, refl, sym, ap, ap₂, _∙_}
 use mathlib.Core.List.{List, [], _∷_, _++_, flatMap}
@@ -9,6 +9,7 @@ use Rattle.model.specs.declared.Head.{Head}
 use Rattle.model.specs.Scale.{S}
 use Rattle.model.specs.Sums.{total, any}
 use Rattle.model.specs.Plan.{plan-of, row-length}
+use Rattle.model.specs.Levels.{largest-level}
 use Rattle.model.specs.Format.{bits, number, fields, head-bits, plan-bits, bit-length, byte-length, filled-bits, bytes-of, bits-of, head-of, row-of, fill-of}
 use Rattle.model.specs.Refusal.{first, head-checks, number-checks, tail-survivable, Accepted, plan-refusal, read-refusal, write-refusal}
 use Rattle.codec.specs.Answers.{read-answer, row-after, write-answer, bytes-after}
@@ -71,14 +72,14 @@ module _
               filled _ (byte-length h) (bytes-of h row) lent (write-none lent enough) ∙ ap₂ (λ l n. l ++ drop n lent) bytes-are length-is;
         }
 
--- "the bytes (hexadecimal) 04 02 02 40 00 00 00 80 00 00 01 00 00 00 02 00 00 00 00 00 00 00 00"
+-- "Document 01's report bytes become 04 02 02 14 00 00 00 08 00 00 00 10 00 00 00 20 and seven times 00"
 abbrev pub example-bytes : List ℕ
 example-bytes =
-    0x04 ∷ 0x02 ∷ 0x02 ∷ 0x40 ∷ 0 ∷ 0 ∷ 0 ∷ 0x80 ∷ 0 ∷ 0 ∷ 0x01 ∷ 0 ∷ 0 ∷ 0 ∷ 0x02 ∷ replicate 8 0
+    0x04 ∷ 0x02 ∷ 0x02 ∷ 0x14 ∷ 0 ∷ 0 ∷ 0 ∷ 0x08 ∷ 0 ∷ 0 ∷ 0 ∷ 0x10 ∷ 0 ∷ 0 ∷ 0 ∷ 0x20 ∷ replicate 7 0
 
--- "n = 2, u = 1, m = 2"
+-- "n = 2, u = 1, m = 2", and the income 1
 abbrev pub example-head : Head
-example-head = record { months = 2; opening = 1; sizes = 2 }
+example-head = record { months = 2; opening = 1; sizes = 2; income = 1 }
 
 -- "all chances and weights S/2, over 0"
 abbrev pub example-row : List ℕ
@@ -86,5 +87,5 @@ example-row = replicate 4 (2 ^ 29) ++ 0 ∷ []
 
 -- "For the bytes … (n = 2, u = 1, m = 2, all chances and weights S/2, over 0)", of the reserve report
 pub example-stands : StandFor example-bytes example-head example-row
-unfolding S total any plan-of bits number head-bits plan-bits bit-length byte-length filled-bits bytes-of bits-of head-of fields row-of fill-of first head-checks number-checks tail-survivable read-refusal flatMap
+unfolding S total any largest-level plan-of bits number head-bits plan-bits bit-length byte-length filled-bits bytes-of bits-of head-of fields row-of fill-of first head-checks number-checks tail-survivable read-refusal flatMap
 example-stands = stand-for example-bytes example-head example-row refl refl refl refl

@@ -16,7 +16,7 @@ use Rattle.model.specs.Memory.{filled-after}
 use Rattle.model.specs.Refusal.{read-refusal, write-refusal}
 
 unfoldable pub no-head : Head
-no-head = record { months = 0; opening = 0; sizes = 0 }
+no-head = record { months = 0; opening = 0; sizes = 0; income = 0 }
 
 -- a call that answers a head
 unfoldable pub head-answer : ℕ → Head → ReadAnswer

@@ -40,6 +40,7 @@ pub fn read(bytes: &[u8], row: &mut [u32]) -> ReadAnswer
             months: 0,
             opening: 0,
             sizes: 0,
+            income: 0,
         };
         return ReadAnswer {
             refusal: wrong,

@@ -68,10 +68,10 @@ unfolding bounds-answer
 answer-worked low high low′ high′ el eh = rw (el, eh)
 
 -- the two halves are what is needed
-pub needed-halves : (a : Ask) (width : ℕ) → width ≡ row-levels (a .head .opening) (a .head .months) → 2 * rows-size (shape-of (a .question) width) ≡ workspace-needed a
+pub needed-halves : (a : Ask) (width : ℕ) → width ≡ row-levels (a .head .income) (a .head .opening) (a .head .months) → 2 * rows-size (shape-of (a .question) width (a .head .income)) ≡ workspace-needed a
 unfolding workspace-needed
 needed-halves a width e =
-    rw (shape-rows (a .question) width, shape-width (a .question) width, ← e)
+    rw (shape-rows (a .question) width (a .head .income), shape-width (a .question) width (a .head .income), ← e)
     (ap (λ n. 2 * n) (mul-comm (rows-needed (a .question)) width) ∙ sym (mul-assoc 2 width (rows-needed (a .question))))
 
 -- what the bounds ask of the plan's row, as it is lent: the first months, the weights, and over
@@ -98,11 +98,11 @@ terms-lent h row f months =
 
 -- the levels that the months reach lie within the rows
 pub levels-fit :
-    (h : Head) (row : List ℕ) → length row ≡ row-length h → (months width : ℕ) → months ≤ h .months → width ≡ row-levels (h .opening) (h .months) →
-    largest-level (h .opening) (length (take months row)) < width
+    (h : Head) (row : List ℕ) → length row ≡ row-length h → (months width : ℕ) → months ≤ h .months → width ≡ row-levels (h .income) (h .opening) (h .months) →
+    largest-level (h .income) (h .opening) (length (take months row)) < width
 levels-fit h row row-is months width l e =
     let count : length (take months row) ≡ months = length-take-le months row (omega arith) in
-    rw count (omega (arith, level-later (h .opening) months (h .months) l))
+    rw count (omega (arith, level-later (h .income) (h .opening) months (h .months) l))
 
 -- there is a row
 pub some-row : (last : LastRows) (shape : Shape) (F : List ℕ) (tail : ℕ) → LastFits last shape F tail → 0 < shape .rows
@@ -117,22 +117,22 @@ pub last-lent :
 last-lent last shape h row fits = rw (severity-lent h row, tail-lent h row) fits
 
 pub value-lent :
-    (round : Rounding) (h : Head) (row : List ℕ) (months : ℕ) (shape : Shape) (last : LastRows) (r : ℕ) → months ≤ h .months →
+    (round : Rounding) (h : Head) (row : List ℕ) (months : ℕ) (shape : Shape) → shape .income ≡ h .income → (last : LastRows) (r : ℕ) → months ≤ h .months →
     r
-    ≡ values (month round (take (h .months + h .sizes - h .months) (drop (h .months) row))) (rule-by shape)
-    (last-rows last round (take (h .months + h .sizes - h .months) (drop (h .months) row)) (getD row (h .months + h .sizes) 0)) (take months row)
+    ≡ values (month round (shape .income) (take (h .months + h .sizes - h .months) (drop (h .months) row))) (rule-by shape)
+    (last-rows last round (shape .income) (take (h .months + h .sizes - h .months) (drop (h .months) row)) (getD row (h .months + h .sizes) 0)) (take months row)
     (shape .rows - 1) (h .opening) →
     r ≡ opening-value round (plan-of h row) months shape last
-unfolding plan-of
-value-lent round h row months shape last r l e =
-    rw (severity-lent h row, chances-lent h row months l) at e
+unfolding plan-of rule-by
+value-lent round h row months shape earns last r l e =
+    rw (earns, severity-lent h row, chances-lent h row months l) at e
 
 -- what the row before a month that ruins needs, of an accepted plan and the shape of survive
 pub ruin-fits :
-    (h : Head) (row : List ℕ) → Facts h row → (i : ℕ) (shape : Shape) (width : ℕ) → shape ≡ shape-of Survive width →
+    (h : Head) (row : List ℕ) → Facts h row → (i : ℕ) (shape : Shape) (width income : ℕ) → shape ≡ shape-of Survive width income →
     LastFits (Ruin (getD row i 0)) shape (plan-of h row .severity) (plan-of h row .tail)
 unfolding LastFits shape-of
-ruin-fits h row f i shape width e =
+ruin-fits h row f i shape width income e =
     (ap (λ (s : Shape). s .rows) e, record { weights-fit = omega (arith, f .weights-add); chance-fits = f .numbers-fit i })
 
 -- the last rows in memory: where all claims are placed …
@@ -154,14 +154,14 @@ one-row shape one = rw one (one-mul (shape .width))
 
 pub ruin-in :
     (last : LastRows) (P : ℕ) → last ≡ Ruin P → (round : Rounding) (F : List ℕ) (tail : ℕ) (shape : Shape) (top : ℕ) (xs xs′ : List ℕ) → shape .rows ≡ 1 →
-    xs′ ≡ xs → Replaced 0 (top + 1) (λ i. ruin-row round F tail P (top - i)) (replicate (shape .width) 0) xs → LastIn last round F tail shape top xs′
+    xs′ ≡ xs → Replaced 0 (top + 1) (λ i. ruin-row round (shape .income) F tail P (top - i)) (replicate (shape .width) 0) xs → LastIn last round F tail shape top xs′
 unfolding last-rows past-last
 ruin-in last P e round F tail shape top xs xs′ one same h = record { each = each; past = past }
   where
     first : (k : ℕ) → k < shape .rows → (shape .rows - 1 - k) * shape .width ≡ 0
     first k l = let none : shape .rows - 1 - k ≡ 0 = omega arith in rw none (zero-mul (shape .width))
 
-    each : (k : ℕ) → k < shape .rows → (s : ℕ) → s ≤ top → values-in shape top xs′ k s ≡ last-rows last round F tail k s
+    each : (k : ℕ) → k < shape .rows → (s : ℕ) → s ≤ top → values-in shape top xs′ k s ≡ last-rows last round (shape .income) F tail k s
     each k l s m =
         let level : top - (top - s) ≡ s = omega arith in
         rw (e, same, first k l) (rw (zero-add, level) at (h .inside (top - s) (omega arith)))
@@ -172,22 +172,22 @@ ruin-in last P e round F tail shape top xs xs′ one same h = record { each = ea
 -- The value at the opening is the question's bound, where the question allows the opening and all months are worked …
 pub bound-is :
     (round : Rounding) (h : Head) (row : List ℕ) → length row ≡ row-length h → (q : Question) → outside q ≡ false → opening-allowed q (h .opening) ≡ true →
-    (width : ℕ) → width ≡ row-levels (h .opening) (h .months) →
-    opening-value round (plan-of h row) (h .months) (shape-of q width) Placed ≡ bound round (plan-of h row) q
+    (width : ℕ) → width ≡ row-levels (h .income) (h .opening) (h .months) →
+    opening-value round (plan-of h row) (h .months) (shape-of q width (h .income)) Placed ≡ bound round (plan-of h row) q
 unfolding bound last-rows plan-of
 bound-is round h row row-is q inside allowed width ew =
-    let some-row : 0 < shape-of q width .rows = omega (arith, shape-rows q width, rows-few q inside) in
+    let some-row : 0 < shape-of q width (h .income) .rows = omega (arith, shape-rows q width (h .income), rows-few q inside) in
     let months = horizon-is h row row-is in
     rw (take-all (h .months) (plan-of h row .chances) (omega (arith, months)))
-    (shape-value round (plan-of h row .severity) (plan-of h row .chances) q (plan-of h row .opening) (largest-level (h .opening) (h .months)) width ew
-    (rw months (le-refl (largest-level (h .opening) (h .months)))) some-row all-placed (last-of q) (λ k l s. last-agree q width k l s))
-    ∙ sym (value-allowed (month round (plan-of h row .severity)) (plan-of h row) q allowed)
+    (shape-value round (h .income) (plan-of h row .severity) (plan-of h row .chances) q (plan-of h row .opening) (largest-level (h .income) (h .opening) (h .months)) width ew
+    (rw months (le-refl (largest-level (h .income) (h .opening) (h .months)))) some-row all-placed (last-of q) (λ k l s. last-agree q width (h .income) k l s))
+    ∙ sym (value-allowed (month round (h .income) (plan-of h row .severity)) (plan-of h row) q allowed)
 
 -- … which is 0 where the question forbids the opening, …
 pub bound-none :
     (round : Rounding) (h : Head) (row : List ℕ) (q : Question) → opening-allowed q (h .opening) ≡ false → 0 ≡ bound round (plan-of h row) q
 unfolding bound plan-of
-bound-none round h row q forbidden = sym (value-forbidden (month round (plan-of h row .severity)) (plan-of h row) q forbidden)
+bound-none round h row q forbidden = sym (value-forbidden (month round (h .income) (plan-of h row .severity)) (plan-of h row) q forbidden)
 
 -- the chance of a month, as it lies in the row
 pub chance-is : (h : Head) (row : List ℕ) (t : ℕ) → 0 < t → t ≤ h .months → getD row (t - 1) 0 ≡ nth (plan-of h row .chances) t
@@ -200,18 +200,18 @@ chance-is h row (suc i) some l =
 -- … and that of ruin in a month, where the months before it are.
 pub ruin-bound-is :
     (round : Rounding) (h : Head) (row : List ℕ) → length row ≡ row-length h → (t : ℕ) → 0 < t → t ≤ h .months →
-    (width : ℕ) → width ≡ row-levels (h .opening) (h .months) → (P : ℕ) → P ≡ getD row (t - 1) 0 →
-    opening-value round (plan-of h row) (t - 1) (shape-of Survive width) (Ruin P) ≡ ruin-bound round (plan-of h row) t
+    (width : ℕ) → width ≡ row-levels (h .income) (h .opening) (h .months) → (P : ℕ) → P ≡ getD row (t - 1) 0 →
+    opening-value round (plan-of h row) (t - 1) (shape-of Survive width (h .income)) (Ruin P) ≡ ruin-bound round (plan-of h row) t
 unfolding ruin-bound carried-back last-rows plan-of rows-needed
 ruin-bound-is round h row row-is t some l width ew P eP =
     let months = horizon-is h row row-is in
     let early : length (take (t - 1) (plan-of h row .chances)) ≡ t - 1 = length-take-le (t - 1) (plan-of h row .chances) (omega arith) in
     rw (eP ∙ chance-is h row t some l)
-    (shape-value round (plan-of h row .severity) (take (t - 1) (plan-of h row .chances)) Survive (plan-of h row .opening) (largest-level (h .opening) (h .months))
-    width ew (earlier (length (take (t - 1) (plan-of h row .chances))) (omega arith)) (rw (shape-rows Survive width) one-row) _ _ (λ k m s. refl))
+    (shape-value round (h .income) (plan-of h row .severity) (take (t - 1) (plan-of h row .chances)) Survive (plan-of h row .opening) (largest-level (h .income) (h .opening) (h .months))
+    width ew (earlier (length (take (t - 1) (plan-of h row .chances))) (omega arith)) (rw (shape-rows Survive width (h .income)) one-row) _ _ (λ k m s. refl))
   where
-    earlier : (n : ℕ) → n ≤ h .months → largest-level (plan-of h row .opening) n ≤ largest-level (h .opening) (h .months)
-    earlier n m = level-later (h .opening) n (h .months) m
+    earlier : (n : ℕ) → n ≤ h .months → largest-level (h .income) (plan-of h row .opening) n ≤ largest-level (h .income) (h .opening) (h .months)
+    earlier n m = level-later (h .income) (h .opening) n (h .months) m
 
     one-row : 0 < rows-needed Survive
     one-row = omega arith

@@ -28,8 +28,8 @@ pub struct Answer {
     pub upper: u32,
 }
 
-// Answers one question about the plan of the ask's head and the row. The workspace needs twice the levels of a row, 2 × (opening + months + 1) numbers,
-// for both k that times k + 1; whatever it holds, that part is 0 after an answer, and nothing else changes. High below the opening is known at once: no
+// Answers one question about the plan of the ask's head and the row. The workspace needs twice the levels of a row, 2 × (opening + income × months + 1)
+// numbers, for both k that times k + 1; whatever it holds, that part is 0 after an answer, and nothing else changes. High below the opening is known at once: no
 // month is worked for it.
 pub fn ask(ask: Ask, row: &[u32], workspace: &mut [u32]) -> Answer
     ensures answered { λ r. ⌜ r ≡ answer ask (now (row .entry)) (length (now (workspace .entry))) ⌝ }
@@ -46,12 +46,12 @@ pub fn ask(ask: Ask, row: &[u32], workspace: &mut [u32]) -> Answer
     if !opening_allowed(question, head.opening) {
         return none_allowed(workspace_needed(ask), workspace);
     }
-    let shape = shape_of(question, row_levels(head));
+    let shape = shape_of(question, row_levels(head), head.income);
     work_out(head, head.months, shape, LastRows::Placed, row, workspace)
 }
 
-// The bounds of the chance that ruin first comes in this month, of 1 to the plan's last. The workspace needs 2 × (opening + months + 1) numbers, as for
-// survive; it is left as by `ask`.
+// The bounds of the chance that ruin first comes in this month, of 1 to the plan's last. The workspace is that of survive,
+// and is left as by `ask`.
 pub fn ruin_in_month(head: Head, month: usize, row: &[u32], workspace: &mut [u32]) -> Answer
     ensures answered { λ r. ⌜ r ≡ ruin-answer head month (now (row .entry)) (length (now (workspace .entry))) ⌝ }
     ensures cleared { λ _. ⌜ now (workspace .exit) ≡ ruin-workspace-after head month (now (row .entry)) (now (workspace .entry)) ⌝ }
@@ -62,7 +62,7 @@ pub fn ruin_in_month(head: Head, month: usize, row: &[u32], workspace: &mut [u32
     if check != 0 {
         return refused(check);
     }
-    let shape = shape_of(Question::Survive, row_levels(head));
+    let shape = shape_of(Question::Survive, row_levels(head), head.income);
     let earlier = month - 1;
     let last = LastRows::Ruin(row[earlier]);
     work_out(head, earlier, shape, last, row, workspace)

@@ -10,11 +10,11 @@ use lib.ListN.{length, getD, drop, length-drop}
 use lib.Seq.{length-take-le}
 use borrow.Author.Tests.{ltb-true, ltb-false, eqb-true, eqb-false, ne-eqb, not-false, lt-ltb, le-ltb}
 use Rattle.model.specs.declared.Head.{Head}
-use Rattle.model.specs.Limits.{max-months, max-opening, max-sizes, max-span}
+use Rattle.model.specs.Limits.{max-months, max-opening, max-sizes, max-income, max-span}
 use Rattle.model.specs.Scale.{S}
 use Rattle.model.specs.Sums.{total, any, all}
 use Rattle.model.specs.Plan.{Plan, plan-of, opened, row-length, horizon, sizes}
-use Rattle.model.specs.Levels.{gain, largest-level}
+use Rattle.model.specs.Levels.{largest-level}
 use Rattle.model.proofs.LevelLaws.{level-from}
 use Rattle.model.specs.Refusal.{first, head-checks, length-check, tail-survivable, number-checks, plan-checks, plan-refusal, HeadAccepted, Accepted}
 
@@ -122,10 +122,18 @@ none-above limit [] e i = zero-le
 none-above limit (x ∷ xs) e zero = ltb-false limit x (neither (ltb limit x) (any (ltb limit) xs) e .0)
 none-above limit (x ∷ xs) e (suc i) = none-above limit xs (neither (ltb limit x) (any (ltb limit) xs) e .1) i
 
--- a tail that is not reachable ruins where there is one
-tail-fits : (p : Plan) → tail-survivable p ≡ false → 0 < p .tail → largest-level (p .opening) (horizon p) ≤ sizes p + 1
+-- a tail that is not reachable income ruins where there is one
+tail-fits : (p : Plan) → tail-survivable p ≡ false → 0 < p .tail → largest-level (p .income) (p .opening) (horizon p) ≤ sizes p + 1
 unfolding tail-survivable
-tail-fits p e some = ltb-false _ _ (sym (ap (λ t. t && ltb (sizes p + 1) (largest-level (p .opening) (horizon p))) (lt-ltb _ _ some)) ∙ e)
+tail-fits p e some = ltb-false _ _ (sym (ap (λ t. t && ltb (sizes p + 1) (largest-level (p .income) (p .opening) (horizon p))) (lt-ltb _ _ some)) ∙ e)
+
+-- 16 and 17 are given "both after 4 in that order": where the months, the opening and the sizes pass
+pub income-then-span :
+    (h : Head) → h .months ≤ max-months → h .opening ≤ max-opening → (h .sizes ≡ 0 → ⊥) → h .sizes ≤ max-sizes →
+    first (head-checks h)
+    ≡ cond (eqb (h .income) 0 || ltb max-income (h .income)) 16 (cond (ltb max-span (largest-level (h .income) (h .opening) (h .months))) 17 0)
+unfolding first head-checks
+income-then-span h months opening some sizes = rw (le-ltb _ _ months, le-ltb _ _ opening, ne-eqb _ 0 some, le-ltb _ _ sizes)
 
 -- what is known of a head that no check turns away
 pub record HeadFacts (h : Head) : Type 0 where
@@ -133,22 +141,27 @@ pub record HeadFacts (h : Head) : Type 0 where
   pub opening-fits : h .opening ≤ max-opening
   pub sizes-some : 0 < h .sizes
   pub sizes-fit : h .sizes ≤ max-sizes
-  pub span-fits : largest-level (h .opening) (h .months) ≤ max-span
+  pub income-some : 0 < h .income
+  pub income-fits : h .income ≤ max-income
+  pub span-fits : largest-level (h .income) (h .opening) (h .months) ≤ max-span
 
 pub head-facts : (h : Head) → HeadAccepted h → HeadFacts h
-unfolding head-checks largest-level gain
+unfolding head-checks
 head-facts h e =
     let horizon-ok = none-fits _ _ _ e in
     let opening-ok = none-fits _ _ _ (horizon-ok .1) in
-    let sizes-ok = neither (eqb (h .sizes) 0) _ (none-fits _ _ _ (opening-ok .1) .0) in
-    let months : h .months ≤ max-months = ltb-false _ _ (horizon-ok .0) in
-    let opening : h .opening ≤ max-opening = ltb-false _ _ (opening-ok .0) in
+    let sizes-ok = none-fits _ _ _ (opening-ok .1) in
+    let sizes-in = neither (eqb (h .sizes) 0) _ (sizes-ok .0) in
+    let income-ok = none-fits _ _ _ (sizes-ok .1) in
+    let income-in = neither (eqb (h .income) 0) _ (income-ok .0) in
     record {
-      months-fit = months;
-      opening-fits = opening;
-      sizes-some = not-zero (eqb-false _ _ (sizes-ok .0));
-      sizes-fit = ltb-false _ _ (sizes-ok .1);
-      span-fits = omega arith;
+      months-fit = ltb-false _ _ (horizon-ok .0);
+      opening-fits = ltb-false _ _ (opening-ok .0);
+      sizes-some = not-zero (eqb-false _ _ (sizes-in .0));
+      sizes-fit = ltb-false _ _ (sizes-in .1);
+      income-some = not-zero (eqb-false _ _ (income-in .0));
+      income-fits = ltb-false _ _ (income-in .1);
+      span-fits = ltb-false _ _ (none-fits _ _ _ (income-ok .1) .0);
     }
 
 -- what is known of an accepted plan
@@ -158,7 +171,7 @@ pub record Facts (h : Head) (row : List ℕ) : Type 0 where
   pub numbers-fit : (i : ℕ) → getD row i 0 ≤ S
   pub weights-add : total (plan-of h row .severity) + plan-of h row .tail ≡ S
   pub tail-ruins :
-      0 < plan-of h row .tail → largest-level (plan-of h row .opening) (horizon (plan-of h row)) ≤ sizes (plan-of h row) + 1
+      0 < plan-of h row .tail → largest-level (plan-of h row .income) (plan-of h row .opening) (horizon (plan-of h row)) ≤ sizes (plan-of h row) + 1
 
 pub accepted-head : (h : Head) (row : List ℕ) → Accepted h row → HeadAccepted h
 unfolding plan-refusal plan-checks
@@ -198,12 +211,13 @@ not-above false m small large l e = refl
 -- a plan of which no check fits
 none-of :
     (h : Head) (row : List ℕ) → ltb max-months (h .months) ≡ false → ltb max-opening (h .opening) ≡ false → eqb (h .sizes) 0 || ltb max-sizes (h .sizes) ≡ false →
+    eqb (h .income) 0 || ltb max-income (h .income) ≡ false → ltb max-span (largest-level (h .income) (h .opening) (h .months)) ≡ false →
     not (eqb (length row) (row-length h)) ≡ false → any (ltb S) row ≡ false → not (eqb (total (plan-of h row .severity) + plan-of h row .tail) S) ≡ false →
     tail-survivable (plan-of h row) ≡ false → Accepted h row
 unfolding first plan-refusal plan-checks head-checks length-check number-checks
-none-of h row months opening sizes-fit long numbers weights tail = rw (months, opening, sizes-fit, long, numbers, weights, tail)
+none-of h row months opening sizes-fit income span long numbers weights tail = rw (months, opening, sizes-fit, income, span, long, numbers, weights, tail)
 
--- Every opening below an accepted plan's is accepted too: the tail rule asks less of it.
+-- Every opening below an accepted plan's is accepted too: the span and the tail rule ask less of it.
 pub opened-accepted : (h : Head) (row : List ℕ) → Accepted h row → (v : ℕ) → v ≤ h .opening → Accepted (opened h v) row
 unfolding plan-refusal plan-checks head-checks length-check number-checks tail-survivable plan-of
 opened-accepted h row e v l =
@@ -211,10 +225,16 @@ opened-accepted h row e v l =
     let parts = none-fits-append (head-checks h) (length-check h row ∷ number-checks h row) (head-numbered h) e in
     let months = none-fits _ _ _ (parts .0) in
     let opening = none-fits _ _ _ (months .1) in
+    let sizes-ok = none-fits _ _ _ (opening .1) in
+    let income = none-fits _ _ _ (sizes-ok .1) in
     let long = none-fits _ _ _ (parts .1) in
     let numbers = none-fits _ _ _ (long .1) in
     let weights = none-fits _ _ _ (numbers .1) in
-    none-of (opened h v) row (months .0) (le-ltb max-opening v (le-trans l (ltb-false max-opening (h .opening) (opening .0)))) (none-fits _ _ _ (opening .1) .0)
+    none-of (opened h v) row (months .0) (le-ltb max-opening v (le-trans l (ltb-false max-opening (h .opening) (opening .0)))) (sizes-ok .0)
+    (income .0) (not-above true max-span (largest-level (h .income) v (h .months)) (largest-level (h .income) (h .opening) (h .months)) (lower-span (h .months)) (none-fits _ _ _ (income .1) .0))
     (long .0) (numbers .0) (weights .0)
-    (not-above (ltb 0 (p .tail)) (sizes p + 1) (largest-level v (horizon p)) (largest-level (h .opening) (horizon p)) (level-from v (h .opening) (horizon p) l .0)
+    (not-above (ltb 0 (p .tail)) (sizes p + 1) (largest-level (h .income) v (horizon p)) (largest-level (h .income) (h .opening) (horizon p)) (lower-span (horizon p))
     (none-fits _ _ _ (weights .1) .0))
+  where
+    lower-span : (n : ℕ) → largest-level (h .income) v n ≤ largest-level (h .income) (h .opening) n
+    lower-span n = level-from (h .income) v (h .opening) n l .0

@@ -10,7 +10,6 @@ use Rattle.model.specs.declared.Question.the-variants.{Survive}
 use Rattle.model.specs.Scale.{S}
 use Rattle.model.specs.Sums.{sum, product}
 use Rattle.model.specs.Plan.{Plan, nth}
-use Rattle.model.specs.Levels.{gain}
 use Rattle.model.specs.MonthRule.{Row, claim-sum, exact-month, kept, claimed-row, month-back, values, value, rule-of, last-of, claims-of, opening-allowed}
 use Rattle.model.specs.FirstClaim.{first-claim-in, some-claim, first-claim, first-claim-survival}
 use Rattle.model.proofs.SumLaws.{sum-ext, product-ext, sum-cut, sum-times, pow-two-more}
@@ -153,13 +152,12 @@ no-claim-is (P ∷ Ps) hP =
     quiet : ℕ
     quiet = product n (λ i. S - nth Ps i)
 
--- unrounded survival over the chances of the months to come
+-- unrounded survival over the chances of the months to come, with the theorem's income of 1
 survival : List ℕ → List ℕ → Row
-survival F Ps = values (exact-month F) (rule-of Survive) (last-of Survive) Ps 0
+survival F Ps = values (exact-month 1 F) (rule-of Survive) (last-of Survive) Ps 0
 
--- the theorem is for a gain of 1
 survival-month : (F : List ℕ) (P : ℕ) (Ps : List ℕ) (u : ℕ) → survival F (P ∷ Ps) u ≡ (S - P) * S * survival F Ps (u + 1) + P * claim-sum F (survival F Ps) (u + 1)
-unfolding survival values month-back rule-of kept claimed-row exact-month gain
+unfolding survival values month-back rule-of kept claimed-row exact-month
 survival-month F P Ps u = refl
 
 -- where the values after a first claim are survival, the theorem's right side is survival
@@ -194,8 +192,8 @@ first-claim-is F (suc turns) Ps l hP u =
     shorter : (i : ℕ) → length (drop (suc i) Ps) ≤ turns
     shorter i = rw length-drop (omega arith)
 
--- Theorem 2.1, both sides multiplied by S^(2n) and the rule's value in parts of S
+-- Theorem 2.1, both sides multiplied by S^(2n) and the rule's value in parts of S. Document 02: it "is for c = 1 alone".
 pub survive-is-first-claim :
-    (p : Plan) → ((i : ℕ) → getD (p .chances) i 0 ≤ S) → value (exact-month (p .severity)) p Survive ≡ first-claim-survival p * S
+    (p : Plan) → p .income ≡ 1 → ((i : ℕ) → getD (p .chances) i 0 ≤ S) → value (exact-month (p .income) (p .severity)) p Survive ≡ first-claim-survival p * S
 unfolding value opening-allowed claims-of kept first-claim-survival survival
-survive-is-first-claim p hP = sym (first-claim-is (p .severity) (length (p .chances)) (p .chances) (le-refl _) hP (p .opening))
+survive-is-first-claim p one hP = rw one (sym (first-claim-is (p .severity) (length (p .chances)) (p .chances) (le-refl _) hP (p .opening)))

@@ -14,9 +14,9 @@ use Rattle.model.specs.History.{Event, no-claim, claim, tail-claim, Hist
 use Rattle.model.specs.Exact.{weight-of}
 use Rattle.model.proofs.SumLaws.{total-append, total-map-times, total-map-plus, total-one-to, sum-times, sum-nth-times, pow-two-more}
 
--- the plan that opens at 0 with these severities, tail and chances; the weight of histories does not look at the opening
+-- a plan with these severities, tail and chances; the weight of histories does not look at the opening and the income
 abbrev plan-with : List ℕ → ℕ → List ℕ → Plan
-plan-with F tail Ps = record { opening = 0; chances = Ps; severity = F; tail = tail }
+plan-with F tail Ps = record { opening = 0; income = 0; chances = Ps; severity = F; tail = tail }
 
 -- the weight over histories of a condition on them
 abbrev pub weigh : List ℕ → ℕ → List ℕ → (History → Bool) → ℕ

@@ -1,35 +1,31 @@
--- Laws of the levels: a month adds something, and the largest level grows by it month by month.
+-- Laws of the levels: the largest level grows by the income month by month.
 use mathlib.Core.Path.{_≡_}
-use Prim.Native.Nat.{ℕ, suc, _+_, _<_, _≤_}
+use Prim.Native.Nat.{ℕ, suc, _+_, _≤_}
 use native.Mathlib.Nat.{mul-zero, mul-suc, mul-add, mul-le-mul-left}
 use native.Mathlib.Omega.{arith}
-use Rattle.model.specs.Levels.{gain, largest-level}
-
-pub gain-some : 0 < gain
-unfolding gain
-gain-some = omega arith
+use Rattle.model.specs.Levels.{largest-level}
 
 -- after no months
-pub level-start : (u : ℕ) → largest-level u 0 ≡ u
+pub level-start : (income u : ℕ) → largest-level income u 0 ≡ u
 unfolding largest-level
-level-start u = omega (arith, mul-zero gain)
+level-start income u = omega (arith, mul-zero income)
 
 -- a later month's largest level is not below an earlier one's
-pub level-later : (u t n : ℕ) → t ≤ n → largest-level u t ≤ largest-level u n
+pub level-later : (income u t n : ℕ) → t ≤ n → largest-level income u t ≤ largest-level income u n
 unfolding largest-level
-level-later u t n l = omega (arith, mul-le-mul-left gain l)
+level-later income u t n l = omega (arith, mul-le-mul-left income l)
 
--- a month more, from its gain on
-pub level-next : (u n : ℕ) → largest-level u (suc n) ≡ largest-level (u + gain) n
+-- a month more, from its income on
+pub level-next : (income u n : ℕ) → largest-level income u (suc n) ≡ largest-level income (u + income) n
 unfolding largest-level
-level-next u n = omega (arith, mul-suc gain n)
+level-next income u n = omega (arith, mul-suc income n)
 
 -- from a level that is reached after r months, so many months more
-pub reachable : (u s r t n : ℕ) → s ≤ largest-level u r → r + n ≤ t → largest-level s n ≤ largest-level u t
+pub reachable : (income u s r t n : ℕ) → s ≤ largest-level income u r → r + n ≤ t → largest-level income s n ≤ largest-level income u t
 unfolding largest-level
-reachable u s r t n l m = omega (arith, mul-le-mul-left gain m, mul-add gain r n)
+reachable income u s r t n l m = omega (arith, mul-le-mul-left income m, mul-add income r n)
 
 -- a fund that opens no lower is no lower
-pub level-from : (u v n : ℕ) → u ≤ v → (largest-level u n ≤ largest-level v n) × (v ≤ largest-level v n)
+pub level-from : (income u v n : ℕ) → u ≤ v → (largest-level income u n ≤ largest-level income v n) × (v ≤ largest-level income v n)
 unfolding largest-level
-level-from u v n l = (omega arith, omega arith)
+level-from income u v n l = (omega arith, omega arith)

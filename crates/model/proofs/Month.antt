@@ -1,4 +1,4 @@
--- Laws of one month over rows: the claim sum, the month in machine numbers, and what a month keeps of its rows.
+-- Laws of one month over rows: the claim sum, the month in machine numbers, and what a month keeps income of its rows.
 use mathlib.Core.Path.{_≡_, refl, sym, _∙_, ap, ap₂}
 use mathlib.Core.List.{List, [], _∷_}
 use Prim.Native.Nat.{ℕ, zero, suc, _+_, _*_, _-_, _/_, _%_, _≤_, zero-le, _<_, min}
@@ -10,7 +10,6 @@ use Rattle.model.specs.declared.Rounding.the-variants.{Down, Up}
 use Rattle.model.specs.Scale.{S, quotient}
 use Rattle.model.specs.Sums.{sum, total}
 use Rattle.model.specs.Plan.{nth}
-use Rattle.model.specs.Levels.{gain}
 use Rattle.model.specs.MonthRule.{Row, claim-sum, month, exact-month}
 use Rattle.model.specs.SplitMonth.{split-parts, split-month}
 use Rattle.model.specs.Bounds.{month-gap, largest, MonthLimits}
@@ -23,6 +22,11 @@ scale-positive = omega arith
 
 pub square-positive : 0 < S * S
 square-positive = mul-pos scale-positive scale-positive
+
+-- A month with a chance of 0 only leads up by the income: its exact value is the quiet row's there, in parts of S × S.
+pub idle-month : (income : ℕ) (F : List ℕ) (X Y : Row) (s : ℕ) → exact-month income F 0 X Y s ≡ S * S * X (s + income)
+unfolding exact-month
+idle-month income F X Y s = simp (sub-zero, zero-mul, add-zero)
 
 -- the claim sum by recursion on the severity list and the level
 pub claim-sum-none : (Y : Row) (r : ℕ) → claim-sum [] Y r ≡ 0
@@ -115,18 +119,18 @@ module _ {rel : ℕ → ℕ → Type 0} {round : Rounding} (d : Direction rel ro
 
   -- A month encloses the exact month if its rows enclose the exact rows: at the rows' scale D, and then at S × S × D.
   pub month-encloses :
-      (F : List ℕ) (P : ℕ) (X Y EX EY : Row) (D : ℕ) →
+      (income : ℕ) (F : List ℕ) (P : ℕ) (X Y EX EY : Row) (D : ℕ) →
       ((s : ℕ) → rel (X s * D) (EX s)) → ((s : ℕ) → rel (Y s * D) (EY s)) →
-      (s : ℕ) → rel (month round F P X Y s * (S * (S * D))) (exact-month F P EX EY s)
+      (s : ℕ) → rel (month round income F P X Y s * (S * (S * D))) (exact-month income F P EX EY s)
   unfolding month exact-month
-  month-encloses F P X Y EX EY D hx hy s =
-      rw (← mul-assoc S S D, ← mul-assoc (month round F P X Y s) (S * S) D)
-      (then (times-right d D (rounds (exact-month F P X Y s) (S * S) square-positive))
-      (rw (add-mul ((S - P) * S * X (s + gain)) (P * C) D, mul-assoc ((S - P) * S) (X (s + gain)) D, mul-assoc P C D)
-      (plus (times ((S - P) * S) (hx (s + gain))) (times P (claim-sum-encloses F Y EY D hy (s + gain))))))
+  month-encloses income F P X Y EX EY D hx hy s =
+      rw (← mul-assoc S S D, ← mul-assoc (month round income F P X Y s) (S * S) D)
+      (then (times-right d D (rounds (exact-month income F P X Y s) (S * S) square-positive))
+      (rw (add-mul ((S - P) * S * X (s + income)) (P * C) D, mul-assoc ((S - P) * S) (X (s + income)) D, mul-assoc P C D)
+      (plus (times ((S - P) * S) (hx (s + income))) (times P (claim-sum-encloses F Y EY D hy (s + income))))))
     where
       C : ℕ
-      C = claim-sum F Y (s + gain)
+      C = claim-sum F Y (s + income)
 
 -- one weight is at most all of them
 nth-le-total : (F : List ℕ) (x : ℕ) → nth F x ≤ total F
@@ -137,12 +141,12 @@ nth-le-total (f ∷ F) (suc zero) = omega arith
 nth-le-total (f ∷ F) (suc (suc i)) = omega (arith, nth-le-total F (suc i))
 
 -- What a month works out at a level, where no value of its rows is above S: nothing passes S × S, and the value is at most S again.
-pub record MonthFits (round : Rounding) (F : List ℕ) (P : ℕ) (X Y : Row) (s : ℕ) : Type 0 where
+pub record MonthFits (round : Rounding) (income : ℕ) (F : List ℕ) (P : ℕ) (X Y : Row) (s : ℕ) : Type 0 where
   pub products : (x r : ℕ) → nth F x * Y r ≤ S * S
-  pub claims : claim-sum F Y (s + gain) ≤ S * S
-  pub left : P * (claim-sum F Y (s + gain) % S) ≤ S * S
-  pub parts : split-parts round P (X (s + gain)) (claim-sum F Y (s + gain) / S) (claim-sum F Y (s + gain) % S) ≤ S * S
-  pub value : month round F P X Y s ≤ S
+  pub claims : claim-sum F Y (s + income) ≤ S * S
+  pub left : P * (claim-sum F Y (s + income) % S) ≤ S * S
+  pub parts : split-parts round P (X (s + income)) (claim-sum F Y (s + income) / S) (claim-sum F Y (s + income) % S) ≤ S * S
+  pub value : month round income F P X Y s ≤ S
 
 -- a mixture of two numbers of at most B, by parts of S, is at most B parts of S
 pub mixture-le : (P a b B : ℕ) → P ≤ S → a ≤ B → b ≤ B → (S - P) * a + P * b ≤ S * B
@@ -155,7 +159,7 @@ mixture-le P a b B hP ha hb =
       ap (λ (n : ℕ). n * B) (sub-add-cancel hP),
     )
 
--- a mixture keeps how far its two numbers lie above two others
+-- a mixture keeps income how far its two numbers lie above two others
 pub mixture-keeps : (P a b a′ b′ g : ℕ) → P ≤ S → a ≤ a′ + g → b ≤ b′ + g → (S - P) * a + P * b ≤ (S - P) * a′ + P * b′ + S * g
 mixture-keeps P a b a′ b′ g hP ha hb =
     omega (
@@ -167,32 +171,32 @@ mixture-keeps P a b a′ b′ g hP ha hb =
 
 -- A month's exact value is at most the largest value that it reads: the level above of the quiet row, and the levels below that of the claimed row.
 pub exact-month-le :
-    (F : List ℕ) → total F ≤ S → (P : ℕ) → P ≤ S → (X Y : Row) (B s : ℕ) →
-    X (s + gain) ≤ B → ((r : ℕ) → r < s + gain → Y r ≤ B) → exact-month F P X Y s ≤ S * (S * B)
+    (income : ℕ) (F : List ℕ) → total F ≤ S → (P : ℕ) → P ≤ S → (X Y : Row) (B s : ℕ) →
+    X (s + income) ≤ B → ((r : ℕ) → r < s + income → Y r ≤ B) → exact-month income F P X Y s ≤ S * (S * B)
 unfolding exact-month
-exact-month-le F hF P hP X Y B s hX hY =
-    rw (mul-assoc (S - P) S (X (s + gain)))
-    (mixture-le P (S * X (s + gain)) (claim-sum F Y (s + gain)) (S * B) hP (mul-le-mul-left S hX)
-    (le-trans (claim-sum-bound F Y B (s + gain) hY) (mul-le-mul-right B hF)))
+exact-month-le income F hF P hP X Y B s hX hY =
+    rw (mul-assoc (S - P) S (X (s + income)))
+    (mixture-le P (S * X (s + income)) (claim-sum F Y (s + income)) (S * B) hP (mul-le-mul-left S hX)
+    (le-trans (claim-sum-bound F Y B (s + income) hY) (mul-le-mul-right B hF)))
 
 -- So is its value, whichever way it is rounded.
 pub month-le :
-    (round : Rounding) (F : List ℕ) → total F ≤ S → (P : ℕ) → P ≤ S → (X Y : Row) (B s : ℕ) →
-    X (s + gain) ≤ B → ((r : ℕ) → r < s + gain → Y r ≤ B) → month round F P X Y s ≤ B
+    (round : Rounding) (income : ℕ) (F : List ℕ) → total F ≤ S → (P : ℕ) → P ≤ S → (X Y : Row) (B s : ℕ) →
+    X (s + income) ≤ B → ((r : ℕ) → r < s + income → Y r ≤ B) → month round income F P X Y s ≤ B
 unfolding month
-month-le round F hF P hP X Y B s hX hY =
-    quotient-le round _ (S * S) B square-positive (rw (mul-assoc S S B) (exact-month-le F hF P hP X Y B s hX hY))
+month-le round income F hF P hP X Y B s hX hY =
+    quotient-le round _ (S * S) B square-positive (rw (mul-assoc S S B) (exact-month-le income F hF P hP X Y B s hX hY))
 
 -- Rows that are at most g above others have an exact value of at most g above theirs.
 pub exact-month-keeps :
-    (F : List ℕ) → total F ≤ S → (P : ℕ) → P ≤ S → (X Y X′ Y′ : Row) (g : ℕ) → ((s : ℕ) → X s ≤ X′ s + g) → ((s : ℕ) → Y s ≤ Y′ s + g) →
-    (s : ℕ) → exact-month F P X Y s ≤ exact-month F P X′ Y′ s + S * (S * g)
+    (income : ℕ) (F : List ℕ) → total F ≤ S → (P : ℕ) → P ≤ S → (X Y X′ Y′ : Row) (g : ℕ) → ((s : ℕ) → X s ≤ X′ s + g) → ((s : ℕ) → Y s ≤ Y′ s + g) →
+    (s : ℕ) → exact-month income F P X Y s ≤ exact-month income F P X′ Y′ s + S * (S * g)
 unfolding exact-month
-exact-month-keeps F hF P hP X Y X′ Y′ g hX hY s =
-    rw (mul-assoc (S - P) S (X (s + gain)), mul-assoc (S - P) S (X′ (s + gain)))
-    (mixture-keeps P (S * X (s + gain)) (claim-sum F Y (s + gain)) (S * X′ (s + gain)) (claim-sum F Y′ (s + gain)) (S * g) hP
-    (simp mul-add at (mul-le-mul-left S (hX (s + gain))))
-    (claim-sum-le F hF Y Y′ g hY (s + gain)))
+exact-month-keeps income F hF P hP X Y X′ Y′ g hX hY s =
+    rw (mul-assoc (S - P) S (X (s + income)), mul-assoc (S - P) S (X′ (s + income)))
+    (mixture-keeps P (S * X (s + income)) (claim-sum F Y (s + income)) (S * X′ (s + income)) (claim-sum F Y′ (s + income)) (S * g) hP
+    (simp mul-add at (mul-le-mul-left S (hX (s + income))))
+    (claim-sum-le F hF Y Y′ g hY (s + income)))
 
 -- A month from the claim sum's quotient A by S and what is left over, R.
 module _ (round : Rounding) (P X A R : ℕ) where
@@ -227,32 +231,32 @@ module _ (round : Rounding) (P X A R : ℕ) where
 
 -- Document 02: what is worked out in machine numbers is the month, the exact quotient by S × S.
 pub month-split :
-    (round : Rounding) (F : List ℕ) (P : ℕ) (X Y : Row) (s : ℕ) →
-    month round F P X Y s
-    ≡ split-month round P (X (s + gain)) (claim-sum F Y (s + gain) / S) (claim-sum F Y (s + gain) % S)
+    (round : Rounding) (income : ℕ) (F : List ℕ) (P : ℕ) (X Y : Row) (s : ℕ) →
+    month round income F P X Y s
+    ≡ split-month round P (X (s + income)) (claim-sum F Y (s + income) / S) (claim-sum F Y (s + income) % S)
 unfolding month exact-month
-month-split round F P X Y s =
-    ap (λ (C : ℕ). quotient round ((S - P) * S * X (s + gain) + P * C) (S * S)) (sym (div-add-mod' (claim-sum F Y (s + gain)) S))
-    ∙ split-is round P (X (s + gain)) (claim-sum F Y (s + gain) / S) (claim-sum F Y (s + gain) % S)
+month-split round income F P X Y s =
+    ap (λ (C : ℕ). quotient round ((S - P) * S * X (s + income) + P * C) (S * S)) (sym (div-add-mod' (claim-sum F Y (s + income)) S))
+    ∙ split-is round P (X (s + income)) (claim-sum F Y (s + income) / S) (claim-sum F Y (s + income) % S)
 
 pub month-fits :
-    (round : Rounding) (F : List ℕ) → total F ≤ S → (P : ℕ) → P ≤ S →
-    (X Y : Row) → ((s : ℕ) → X s ≤ S) → ((s : ℕ) → Y s ≤ S) → (s : ℕ) → MonthFits round F P X Y s
+    (round : Rounding) (income : ℕ) (F : List ℕ) → total F ≤ S → (P : ℕ) → P ≤ S →
+    (X Y : Row) → ((s : ℕ) → X s ≤ S) → ((s : ℕ) → Y s ≤ S) → (s : ℕ) → MonthFits round income F P X Y s
 unfolding month exact-month
-month-fits round F hF P hP X Y hX hY s =
+month-fits round income F hF P hP X Y hX hY s =
     record {
       products = λ x r. mul-le-mul (le-trans (nth-le-total F x) hF) (hY r);
       claims = c;
       left = mul-le-mul hP (let l : C % S < S = mod-lt C scale-positive in omega arith);
-      parts = parts-fit round P (X (s + gain)) (C / S) (C % S) hP (hX (s + gain)) whole;
-      value = rw (div-add-mod' C S) at (value-fits round P (X (s + gain)) (C / S) (C % S) hP (hX (s + gain)) whole);
+      parts = parts-fit round P (X (s + income)) (C / S) (C % S) hP (hX (s + income)) whole;
+      value = rw (div-add-mod' C S) at (value-fits round P (X (s + income)) (C / S) (C % S) hP (hX (s + income)) whole);
     }
   where
     C : ℕ
-    C = claim-sum F Y (s + gain)
+    C = claim-sum F Y (s + income)
 
     c : C ≤ S * S
-    c = claim-sum-fits F Y hF hY (s + gain)
+    c = claim-sum-fits F Y hF hY (s + income)
 
     whole : C / S * S + C % S ≤ S * S
     whole = rw (div-add-mod' C S) c
@@ -266,7 +270,7 @@ pub scale-limit : S ≤ largest
 unfolding S largest
 scale-limit = omega arith
 
-pub month-limited : {round : Rounding} {F : List ℕ} {P : ℕ} {X Y : Row} {s : ℕ} → MonthFits round F P X Y s → MonthLimits round F P X Y s
+pub month-limited : {round : Rounding} {income : ℕ} {F : List ℕ} {P : ℕ} {X Y : Row} {s : ℕ} → MonthFits round income F P X Y s → MonthLimits round income F P X Y s
 month-limited fits =
     record {
       product = λ x r. omega (arith, limit _ (fits .products x r));
@@ -277,21 +281,21 @@ month-limited fits =
 
 -- Upper rows that are at most g above the lower rows give an upper value at most g and a month's allowance above the lower one …
 pub month-gap-live :
-    (F : List ℕ) → total F ≤ S → (P : ℕ) → P ≤ S → (X Y X′ Y′ : Row) (g : ℕ) →
+    (income : ℕ) (F : List ℕ) → total F ≤ S → (P : ℕ) → P ≤ S → (X Y X′ Y′ : Row) (g : ℕ) →
     ((s : ℕ) → X′ s ≤ X s + g) → ((s : ℕ) → Y′ s ≤ Y s + g) →
-    (s : ℕ) → month Up F P X′ Y′ s ≤ month Down F P X Y s + (g + month-gap)
+    (s : ℕ) → month Up income F P X′ Y′ s ≤ month Down income F P X Y s + (g + month-gap)
 unfolding month
-month-gap-live F hF P hP X Y X′ Y′ g hX hY s =
-    quotient-gap (exact-month F P X Y s) (exact-month F P X′ Y′ s) (S * S) g square-positive
-    (rw (mul-assoc S S g) (exact-month-keeps F hF P hP X′ Y′ X Y g hX hY s))
+month-gap-live income F hF P hP X Y X′ Y′ g hX hY s =
+    quotient-gap (exact-month income F P X Y s) (exact-month income F P X′ Y′ s) (S * S) g square-positive
+    (rw (mul-assoc S S g) (exact-month-keeps income F hF P hP X′ Y′ X Y g hX hY s))
 
 -- … and no further above it in a month with chance 0.
 pub month-gap-idle :
-    (F : List ℕ) (X Y X′ Y′ : Row) (g : ℕ) → ((s : ℕ) → X′ s ≤ X s + g) →
-    (s : ℕ) → month Up F 0 X′ Y′ s ≤ month Down F 0 X Y s + g
-unfolding month exact-month
-month-gap-idle F X Y X′ Y′ g hX s =
-    simp (zero-mul, add-zero, sub-zero) (quotient-whole (X (s + gain)) (X′ (s + gain)) (S * S) g square-positive (hX (s + gain)))
+    (income : ℕ) (F : List ℕ) (X Y X′ Y′ : Row) (g : ℕ) → ((s : ℕ) → X′ s ≤ X s + g) →
+    (s : ℕ) → month Up income F 0 X′ Y′ s ≤ month Down income F 0 X Y s + g
+unfolding month
+month-gap-idle income F X Y X′ Y′ g hX s =
+    rw (idle-month income F X Y s, idle-month income F X′ Y′ s) (quotient-whole (X (s + income)) (X′ (s + income)) (S * S) g square-positive (hX (s + income)))
 
 -- a factor common to all values of a row
 pub claim-sum-times : (F : List ℕ) (Y : Row) (k s : ℕ) → claim-sum F Y s * k ≡ claim-sum F (λ r. Y r * k) s

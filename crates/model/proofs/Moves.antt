@@ -8,7 +8,6 @@ use lib.ListN.{length, getD}
 use Rattle.model.specs.declared.Rounding.{Rounding}
 use Rattle.model.specs.Scale.{S, quotient}
 use Rattle.model.specs.Sums.{total}
-use Rattle.model.specs.Levels.{gain}
 use Rattle.model.specs.MonthRule.{Row, Month, Rule, claim-sum, month, exact-month, values}
 use Rattle.model.specs.CountRow.{one-before, count-month, exact-count-month, after-months}
 use Rattle.model.specs.Sensitivity.{distance, chances-apart}
@@ -62,7 +61,7 @@ mixture-moves P P′ a b B hP hP′ ha hb =
     claimed : P ≤ P′ + (P - P′)
     claimed = omega arith
 
--- The law of one month: a mixture of numbers that are near each other moves by what its chance does, and keeps what these were apart.
+-- The law of one month: a mixture of numbers that are near each other moves by what its chance does, and keeps income what these were apart.
 pub mixture-near :
     {g D a b a′ b′ : ℕ} (P P′ : ℕ) → P ≤ S → P′ ≤ S → Near g D a a′ → Near g D b b′ →
     Near (distance P P′ + g) (S * D) ((S - P) * a + P * b) ((S - P′) * a′ + P′ * b′)
@@ -85,7 +84,7 @@ Moving m D D′ =
     (P P′ : ℕ) → P ≤ S → P′ ≤ S → (X Y X′ Y′ : Row) (g : ℕ) → ((s : ℕ) → Near g D (X s) (X′ s)) → ((s : ℕ) → Near g D (Y s) (Y′ s)) →
     (s : ℕ) → Near (distance P P′ + g) D′ (m P X Y s) (m P′ X′ Y′ s)
 
-module _ (F : List ℕ) (hF : total F ≤ S) where
+module _ (income : ℕ) (F : List ℕ) (hF : total F ≤ S) where
   claim-sum-near : (D : ℕ) (Y Y′ : Row) (g : ℕ) → ((s : ℕ) → Near g D (Y s) (Y′ s)) → (s : ℕ) → Near g (S * D) (claim-sum F Y s) (claim-sum F Y′ s)
   claim-sum-near D Y Y′ g h s =
       record {
@@ -94,14 +93,14 @@ module _ (F : List ℕ) (hF : total F ≤ S) where
       }
 
   -- the exact month at any scale …
-  pub exact-moving : (D : ℕ) → Moving (exact-month F) D (S * (S * D))
+  pub exact-moving : (D : ℕ) → Moving (exact-month income F) D (S * (S * D))
   unfolding Moving exact-month
   exact-moving D P P′ hP hP′ X Y X′ Y′ g hX hY s =
-      rw (mul-assoc (S - P) S (X (s + gain)), mul-assoc (S - P′) S (X′ (s + gain)))
-      (mixture-near P P′ hP hP′ (near-times S (hX (s + gain))) (claim-sum-near D Y Y′ g hY (s + gain)))
+      rw (mul-assoc (S - P) S (X (s + income)), mul-assoc (S - P′) S (X′ (s + income)))
+      (mixture-near P P′ hP hP′ (near-times S (hX (s + income))) (claim-sum-near D Y Y′ g hY (s + income)))
 
   -- … and the rounded month, in parts of S before and after
-  pub rounded-moving : (round : Rounding) → Moving (month round F) 1 1
+  pub rounded-moving : (round : Rounding) → Moving (month round income F) 1 1
   unfolding Moving month
   rounded-moving round P P′ hP hP′ X Y X′ Y′ g hX hY s =
       near-quotient round (S * S) square-positive

@@ -29,19 +29,19 @@ pub value-forbidden : (one-month : Month) (p : Plan) (q : Question) → opening-
 unfolding value kept
 value-forbidden one-month p q e = rw e
 
--- Where u is above L no history keeps the condition of high, with no months too.
-pub none-keeps : (L u : ℕ) → L < u → (h : History) → keeps (High L) u h ≡ false
+-- Where u is above L no history keeps income the condition of high, with no months too.
+pub none-keeps : (income L u : ℕ) → L < u → (h : History) → keeps income (High L) u h ≡ false
 unfolding keeps
-none-keeps L u l h = ap (λ (b : Bool). b && survives u h && all (at-most L) (path-from u h)) (lt-leb u L l)
+none-keeps income L u l h = ap (λ (b : Bool). b && survives income u h && all (at-most L) (path-from income u h)) (lt-leb u L l)
 
 -- "For L at least u, nothing moves": the bounds are V_0(u), and the condition is that of the months alone.
 pub high-unmoved :
     (p : Plan) (L : ℕ) → p .opening ≤ L →
-    ((round : Rounding) → bound round p (High L) ≡ opening-row (month round (p .severity)) p (High L) (p .opening))
-    × (exact p (High L) ≡ weight-of p (λ h. survives (p .opening) h && all (at-most L) (path-from (p .opening) h)))
+    ((round : Rounding) → bound round p (High L) ≡ opening-row (month round (p .income) (p .severity)) p (High L) (p .opening))
+    × (exact p (High L) ≡ weight-of p (λ h. survives (p .income) (p .opening) h && all (at-most L) (path-from (p .income) (p .opening) h)))
 unfolding bound opening-allowed exact keeps weight-of
 high-unmoved p L l = (
-  λ round. value-allowed (month round (p .severity)) p (High L) (le-leb (p .opening) L l),
+  λ round. value-allowed (month round (p .income) (p .severity)) p (High L) (le-leb (p .opening) L l),
   rw (le-leb (p .opening) L l),
 )
 
@@ -49,17 +49,17 @@ high-unmoved p L l = (
 pub high-exceeded : (p : Plan) (L : ℕ) → L < p .opening → (exact p (High L) ≡ 0) × ((round : Rounding) → bound round p (High L) ≡ 0)
 unfolding bound opening-allowed exact
 high-exceeded p L l = (
-  weight-is p (keeps (High L) (p .opening)) ∙ rw (fun-ext (none-keeps L (p .opening) l)) (weigh-none (p .severity) (p .tail) (p .chances)),
-  λ round. value-forbidden (month round (p .severity)) p (High L) (lt-leb (p .opening) L l),
+  weight-is p (keeps (p .income) (High L) (p .opening)) ∙ rw (fun-ext (none-keeps (p .income) L (p .opening) l)) (weigh-none (p .severity) (p .tail) (p .chances)),
+  λ round. value-forbidden (month round (p .income) (p .severity)) p (High L) (lt-leb (p .opening) L l),
 )
 
 -- "U_0 does not count" in low: neither in the bounds nor in the condition.
 pub low-unmoved :
     (p : Plan) (L : ℕ) →
-    ((round : Rounding) → bound round p (Low L) ≡ opening-row (month round (p .severity)) p (Low L) (p .opening))
-    × (exact p (Low L) ≡ weight-of p (λ h. survives (p .opening) h && all (at-least L) (path-from (p .opening) h)))
+    ((round : Rounding) → bound round p (Low L) ≡ opening-row (month round (p .income) (p .severity)) p (Low L) (p .opening))
+    × (exact p (Low L) ≡ weight-of p (λ h. survives (p .income) (p .opening) h && all (at-least L) (path-from (p .income) (p .opening) h)))
 unfolding bound opening-allowed exact keeps weight-of
-low-unmoved p L = (λ round. value-allowed (month round (p .severity)) p (Low L) refl, refl)
+low-unmoved p L = (λ round. value-allowed (month round (p .income) (p .severity)) p (Low L) refl, refl)
 
 -- With no months low holds "for every L" …
 pub low-no-months : (p : Plan) → p .chances ≡ [] → (L : ℕ) → (exact p (Low L) ≡ 1) × ((round : Rounding) → bound round p (Low L) ≡ S)

@@ -6,7 +6,6 @@ use native.Mathlib.Nat.{mul-assoc, mul-comm, mul-one, add-zero, zero-add, one-mu
 use native.Mathlib.Omega.{arith}
 use lib.ListN.{length, getD, take}
 use lib.Seq.{length-take-le}
-use Rattle.model.specs.Levels.{gain}
 use Rattle.model.specs.declared.Head.{Head}
 use Rattle.model.specs.declared.Rounding.{Rounding}
 use Rattle.model.specs.declared.Question.{Question}
@@ -41,7 +40,7 @@ turned pair =
     record {
       accepted = pair .accepted′;
       accepted′ = pair .accepted;
-      only = record { months = sym (only .months); opening = sym (only .opening); severity = sym (only .severity); tail = sym (only .tail) };
+      only = record { months = sym (only .months); opening = sym (only .opening); income = sym (only .income); severity = sym (only .severity); tail = sym (only .tail) };
     }
 
 module _ {h h′ : Head} {row row′ : List ℕ} (pair : Pair h row h′ row′) where
@@ -65,14 +64,14 @@ module _ {h h′ : Head} {row row′ : List ℕ} (pair : Pair h row h′ row′)
 
   -- a question's answer, by any month that moves with its chance
   value-near :
-      (m : List ℕ → Month) (D : ℕ → ℕ) → D 0 ≡ 1 → ((n : ℕ) → Moving (m (old .severity)) (D n) (D (suc n))) →
-      (q : Question) → Near (chances-apart (old .chances) (new .chances)) (D (horizon old)) (value (m (old .severity)) old q) (value (m (new .severity)) new q)
+      (m : ℕ → List ℕ → Month) (D : ℕ → ℕ) → D 0 ≡ 1 → ((n : ℕ) → Moving (m (old .income) (old .severity)) (D n) (D (suc n))) →
+      (q : Question) → Near (chances-apart (old .chances) (new .chances)) (D (horizon old)) (value (m (old .income) (old .severity)) old q) (value (m (new .income) (new .severity)) new q)
   unfolding value
   value-near m D start moving q =
-      rw (← only .severity, ← only .opening)
+      rw (← only .income, ← only .severity, ← only .opening)
       (kept-rel (Near (chances-apart (old .chances) (new .chances)) (D (horizon old))) (near-nothing _ _) (opening-allowed q) _ _ (old .opening)
       (rw (add-zero (chances-apart (old .chances) (new .chances))) at
-      (values-move (m (old .severity)) D moving (rule-of q) (last-of q) (last-of q) 0 last (old .chances) (new .chances) (only .months)
+      (values-move (m (old .income) (old .severity)) D moving (rule-of q) (last-of q) (last-of q) 0 last (old .chances) (new .chances) (only .months)
       old-fit new-fit (claims-of q) (old .opening))))
     where
       last : (k s : ℕ) → Near 0 (D 0) (last-of q k s) (last-of q k s)
@@ -81,11 +80,11 @@ module _ {h h′ : Head} {row row′ : List ℕ} (pair : Pair h row h′ row′)
   pub exact-near : (q : Question) → Near (chances-apart (old .chances) (new .chances)) (S ^ (2 * horizon old)) (exact old q * S) (exact new q * S)
   exact-near q =
       rw (← unrounded h row (pair .accepted) q, ← unrounded h′ row′ (pair .accepted′) q)
-      (value-near exact-month (λ n. S ^ (2 * n)) (pow-zero S) (λ n. rw (pow-two-more S n) (exact-moving (old .severity) weights-most (S ^ (2 * n)))) q)
+      (value-near exact-month (λ n. S ^ (2 * n)) (pow-zero S) (λ n. rw (pow-two-more S n) (exact-moving (old .income) (old .severity) weights-most (S ^ (2 * n)))) q)
 
   pub bound-near : (round : Rounding) (q : Question) → Near (chances-apart (old .chances) (new .chances)) 1 (bound round old q) (bound round new q)
   unfolding bound
-  bound-near round q = value-near (month round) (λ n. 1) refl (λ n. rounded-moving (old .severity) weights-most round) q
+  bound-near round q = value-near (month round) (λ n. 1) refl (λ n. rounded-moving (old .income) (old .severity) weights-most round) q
 
   -- a place of the count row
   count-near :
@@ -117,15 +116,15 @@ module _ {h h′ : Head} {row row′ : List ℕ} (pair : Pair h row h′ row′)
       ∙ omega (arith, apart-more (nth (old .chances) t) (nth (new .chances) t) [] [], apart-none)
 
   carried-near :
-      (m : List ℕ → Month) (D : ℕ → ℕ) → ((n : ℕ) → Moving (m (old .severity)) (D n) (D (suc n))) →
+      (m : ℕ → List ℕ → Month) (D : ℕ → ℕ) → ((n : ℕ) → Moving (m (old .income) (old .severity)) (D n) (D (suc n))) →
       (t : ℕ) → 0 < t → t ≤ horizon old → (before before′ : Row) →
       ((s : ℕ) → Near (distance (nth (old .chances) t) (nth (new .chances) t)) (D 0) (before s) (before′ s)) →
-      Near (chances-apart (months-to old t) (months-to new t)) (D (t - 1)) (carried-back (m (old .severity)) old t before) (carried-back (m (new .severity)) new t before′)
+      Near (chances-apart (months-to old t) (months-to new t)) (D (t - 1)) (carried-back (m (old .income) (old .severity)) old t before) (carried-back (m (new .income) (new .severity)) new t before′)
   unfolding carried-back
   carried-near m D moving t some l before before′ near =
-      rw (months-apart t some l, ← only .severity, ← only .opening)
+      rw (months-apart t some l, ← only .income, ← only .severity, ← only .opening)
       (rw count at
-      (values-move (m (old .severity)) D moving (rule-of Survive) (λ k. before) (λ k. before′) (distance (nth (old .chances) t) (nth (new .chances) t)) (λ k s. near s)
+      (values-move (m (old .income) (old .severity)) D moving (rule-of Survive) (λ k. before) (λ k. before′) (distance (nth (old .chances) t) (nth (new .chances) t)) (λ k s. near s)
       (take (t - 1) (old .chances)) (take (t - 1) (new .chances)) (count ∙ sym (length-take-le (t - 1) (new .chances) (omega (arith, only .months))))
       (take-fits S (t - 1) (old .chances) old-fit) (take-fits S (t - 1) (new .chances) new-fit)
       (claims-of Survive) (old .opening)))
@@ -137,14 +136,14 @@ module _ {h h′ : Head} {row row′ : List ℕ} (pair : Pair h row h′ row′)
       (t s : ℕ) →
       Near (distance (nth (old .chances) t) (nth (new .chances) t)) S (exact-before h row (pair .accepted) t s) (exact-before h′ row′ (pair .accepted′) t s)
   before-near t s =
-      rw (← only .severity, ← only .tail)
-      (ruin-moving (nth (old .chances) t) (nth (new .chances) t) (ruin-weight (old .severity) (old .tail) (s + gain))
-      (chance-fits h row (pair .accepted) t) (chance-fits h′ row′ (pair .accepted′) t) (ruin-weight-fits (old .severity) (old .tail) (weights-fit h row (pair .accepted)) (s + gain)))
+      rw (← only .income, ← only .severity, ← only .tail)
+      (ruin-moving (nth (old .chances) t) (nth (new .chances) t) (ruin-weight (old .severity) (old .tail) (s + old .income))
+      (chance-fits h row (pair .accepted) t) (chance-fits h′ row′ (pair .accepted′) t) (ruin-weight-fits (old .severity) (old .tail) (weights-fit h row (pair .accepted)) (s + old .income)))
 
   pub ruin-bound-near : (round : Rounding) (t : ℕ) → 0 < t → t ≤ horizon old → Near (chances-apart (months-to old t) (months-to new t)) 1 (ruin-bound round old t) (ruin-bound round new t)
   unfolding ruin-bound ruin-row
   ruin-bound-near round t some l =
-      carried-near (month round) (λ n. 1) (λ n. rounded-moving (old .severity) weights-most round) t some l _ _
+      carried-near (month round) (λ n. 1) (λ n. rounded-moving (old .income) (old .severity) weights-most round) t some l _ _
       (λ s. near-quotient round S scale-positive (before-near t s))
 
   pub exact-ruin-near :
@@ -156,7 +155,7 @@ module _ {h h′ : Head} {row row′ : List ℕ} (pair : Pair h row h′ row′)
       )
       (rw around at
       (near-times (S ^ (2 * (horizon old - t)) * S)
-      (carried-near exact-month (λ n. S ^ (2 * n) * S) (λ n. rw (pow-two-more S n, months n) (exact-moving (old .severity) weights-most (S ^ (2 * n) * S)))
+      (carried-near exact-month (λ n. S ^ (2 * n) * S) (λ n. rw (pow-two-more S n, months n) (exact-moving (old .income) (old .severity) weights-most (S ^ (2 * n) * S)))
       t some l (exact-before h row (pair .accepted) t) (exact-before h′ row′ (pair .accepted′) t) (λ s. rw (pow-zero S, one-mul S) (before-near t s)))))
     where
       months : (n : ℕ) → S * (S * S ^ (2 * n)) * S ≡ S * (S * (S ^ (2 * n) * S))

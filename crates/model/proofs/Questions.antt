@@ -43,14 +43,14 @@ placed (Both j) k h = eqb (claims h) k
 placed (High L) k h = true
 placed (Low L) k h = true
 
-keeps-is : (q : Question) (u : ℕ) (h : History) → keeps q u h ≡ opening-allowed q u && holds (test q) (placed q) (claims-of q) u h
+keeps-is : (income : ℕ) (q : Question) (u : ℕ) (h : History) → keeps income q u h ≡ opening-allowed q u && holds income (test q) (placed q) (claims-of q) u h
 unfolding keeps survives opening-allowed holds test placed claims-of
-keeps-is Survive u h = sym (and-true (survives u h))
-keeps-is (Both k) u h = refl
-keeps-is (High L) u h =
-    and-assoc (leb u L) (survives u h) (all (at-most L) (path-from u h))
-    ∙ ap (λ (b : Bool). leb u L && b) (all-and (at-least 1) (at-most L) (path-from u h) ∙ sym (and-true _))
-keeps-is (Low L) u h = all-and (at-least 1) (at-least L) (path-from u h) ∙ sym (and-true _)
+keeps-is income Survive u h = sym (and-true (survives income u h))
+keeps-is income (Both k) u h = refl
+keeps-is income (High L) u h =
+    and-assoc (leb u L) (survives income u h) (all (at-most L) (path-from income u h))
+    ∙ ap (λ (b : Bool). leb u L && b) (all-and (at-least 1) (at-most L) (path-from income u h) ∙ sym (and-true _))
+keeps-is income (Low L) u h = all-and (at-least 1) (at-least L) (path-from income u h) ∙ sym (and-true _)
 
 -- survive, high and low: the claims are not counted, and the test of the surplus is that of the level where it is above 0
 level-reads :
@@ -95,10 +95,10 @@ reads (High L) = level-reads (test (High L)) (λ s. leb s L) (λ r h. rw (le-leb
 reads (Low L) = level-reads (test (Low L)) (λ s. leb L s) (λ r h. rw (le-leb 1 r h)) (λ u e. rw e)
 
 -- The unrounded month rule is W, in parts of S: for every question and any plan, over claims included.
-pub unrounded-is-exact : (p : Plan) (q : Question) → value (exact-month (p .severity)) p q ≡ exact p q * S
+pub unrounded-is-exact : (p : Plan) → 0 < p .income → (q : Question) → value (exact-month (p .income) (p .severity)) p q ≡ exact p q * S
 unfolding value exact kept
-unrounded-is-exact p q =
-    rw (weight-is, fun-ext (keeps-is q (p .opening)))
+unrounded-is-exact p some-income q =
+    rw (weight-is, fun-ext (keeps-is (p .income) q (p .opening)))
     (sym
     (weigh-tested (p .severity) (p .tail) (p .chances) (opening-allowed q (p .opening)) _ _
-    (unrounded (rule-of q) (last-of q) (test q) (placed q) (reads q) (p .severity) (p .tail) (p .chances) (claims-of q) (p .opening))))
+    (unrounded (p .income) some-income (rule-of q) (last-of q) (test q) (placed q) (reads q) (p .severity) (p .tail) (p .chances) (claims-of q) (p .opening))))

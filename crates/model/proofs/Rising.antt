@@ -8,7 +8,6 @@ use native.Mathlib.Nat.{le-refl, add-le-add, mul-le-mul-left}
 use native.Mathlib.Omega.{arith}
 use Rattle.model.specs.declared.Rounding.{Rounding}
 use Rattle.model.specs.Scale.{S}
-use Rattle.model.specs.Levels.{gain}
 use Rattle.model.specs.MonthRule.{Row, Month, Rule, claim-sum, month, exact-month, kept, claimed-row, month-back, values}
 use Rattle.model.proofs.Quotients.{quotient-moves}
 use Rattle.model.proofs.Month.{square-positive, claim-sum-none, claim-sum-ground, claim-sum-cons}
@@ -28,21 +27,21 @@ claim-sum-rises (f ∷ F) Y h (suc (suc r)) (suc (suc s)) l =
     rw (claim-sum-cons f F Y r, claim-sum-cons f F Y s)
     (add-le-add (mul-le-mul-left f (h (suc r) (suc s) (omega arith))) (claim-sum-rises F Y h (suc r) (suc s) (omega arith)))
 
--- A month keeps rising rows rising: with rounding left out …
-pub exact-month-rises : (F : List ℕ) (P : ℕ) (X Y : Row) → Rising X → Rising Y → Rising (exact-month F P X Y)
+-- A month keeps income rising rows rising: with rounding left out …
+pub exact-month-rises : (income : ℕ) (F : List ℕ) (P : ℕ) (X Y : Row) → Rising X → Rising Y → Rising (exact-month income F P X Y)
 unfolding exact-month
-exact-month-rises F P X Y hX hY r s l =
-    add-le-add (mul-le-mul-left ((S - P) * S) (hX (r + gain) (s + gain) (omega arith)))
-    (mul-le-mul-left P (claim-sum-rises F Y hY (r + gain) (s + gain) (omega arith)))
+exact-month-rises income F P X Y hX hY r s l =
+    add-le-add (mul-le-mul-left ((S - P) * S) (hX (r + income) (s + income) (omega arith)))
+    (mul-le-mul-left P (claim-sum-rises F Y hY (r + income) (s + income) (omega arith)))
 
 -- … and rounded either way.
-pub month-rises : (round : Rounding) (F : List ℕ) (P : ℕ) (X Y : Row) → Rising X → Rising Y → Rising (month round F P X Y)
+pub month-rises : (round : Rounding) (income : ℕ) (F : List ℕ) (P : ℕ) (X Y : Row) → Rising X → Rising Y → Rising (month round income F P X Y)
 unfolding month
-month-rises round F P X Y hX hY r s l =
+month-rises round income F P X Y hX hY r s l =
     omega (
       arith,
-      quotient-moves round (exact-month F P X Y r) (exact-month F P X Y s) (S * S) 0 square-positive
-          (omega (arith, exact-month-rises F P X Y hX hY r s l)),
+      quotient-moves round (exact-month income F P X Y r) (exact-month income F P X Y s) (S * S) 0 square-positive
+          (omega (arith, exact-month-rises income F P X Y hX hY r s l)),
     )
 
 -- So do all months, where the rule forbids no level above one that it allows.

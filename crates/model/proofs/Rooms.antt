@@ -1,4 +1,4 @@
--- The rooms that the limits ask for: every plan and question within the limits keeps to them, and the largest needs all of them.
+-- The rooms that the limits ask for: every plan and question within the limits keeps income to them, and the largest needs all of them.
 use Prim.Native.Nat.{_+_, _*_, _^_, _≤_, _<_}
 use mathlib.Core.Path.{_≡_, refl}
 use mathlib.Core.Bool.{false}
@@ -10,7 +10,7 @@ use Rattle.model.specs.declared.Question.{Question}
 use Rattle.model.specs.declared.Question.the-variants.{Survive, Both, High, Low}
 use Rattle.model.specs.declared.Ask.{Ask}
 use Rattle.model.specs.Limits.{max-claims, level-room, workspace-room}
-use Rattle.model.specs.Levels.{gain, largest-level, row-levels}
+use Rattle.model.specs.Levels.{largest-level, row-levels}
 use Rattle.model.specs.Format.{head-bits, head-bytes, bit-length, byte-length}
 use Rattle.model.specs.Refusal.{HeadAccepted, outside, rows-needed, workspace-needed}
 use Rattle.model.specs.Figures.{longest-plan, Figures}
@@ -37,11 +37,11 @@ rows-few (Low L) e = omega arith
 pub workspace-fits : (a : Ask) → HeadAccepted (a .head) → outside (a .question) ≡ false → workspace-needed a ≤ workspace-room
 unfolding workspace-needed
 workspace-fits a h e =
-    let width : 2 * row-levels (a .head .opening) (a .head .months) ≤ 2 * level-room = omega (arith, head-facts _ h .span-fits) in
+    let width : 2 * row-levels (a .head .income) (a .head .opening) (a .head .months) ≤ 2 * level-room = omega (arith, head-facts _ h .span-fits) in
     mul-le-mul width (rows-few (a .question) e .1)
 
 pub figures : Figures
-unfolding longest-plan byte-length bit-length head-bits workspace-needed rows-needed largest-level gain
+unfolding longest-plan byte-length bit-length head-bits workspace-needed rows-needed largest-level
 figures =
     record {
       count-places = refl;

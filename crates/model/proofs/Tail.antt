@@ -10,7 +10,7 @@ use lib.IntN.{ℤ, pos, negsuc, subℕ, _+ℤ_, _-ℤ_}
 use lib.ListN.{length, getD}
 use borrow.Author.Tests.{le-leb, lt-leb, leb-true}
 use Rattle.model.specs.Sums.{all}
-use Rattle.model.specs.Levels.{gain, largest-level}
+use Rattle.model.specs.Levels.{largest-level}
 use Rattle.model.specs.History.{Event, no-claim, claim, tail-claim, History, Surplus, known, lost, next-surplus, surplus-path, at-least, at-most}
 use Rattle.model.proofs.Unrounded.{and-false}
 
@@ -35,13 +35,13 @@ minus-at-most B (suc i) (pos z) h = sub-at-most B z (suc i) (omega (arith, leb-t
 minus-at-most B zero (negsuc z) h = sub-at-most B 0 (suc z) (omega arith)
 minus-at-most B (suc i) (negsuc z) h = refl
 
--- the surplus grows by at most the gain a month
-grows : (B : ℕ) (u : Surplus) (e : Event) → at-most B u ≡ true → at-most (B + gain) (next-surplus u e) ≡ true
+-- the surplus grows by at most the income a month
+grows : (income B : ℕ) (u : Surplus) (e : Event) → at-most B u ≡ true → at-most (B + income) (next-surplus income u e) ≡ true
 unfolding next-surplus at-most
-grows B (known z) no-claim h = plus-at-most B gain z h
-grows B (known z) (claim x) h = minus-at-most (B + gain) x (z +ℤ pos gain) (plus-at-most B gain z h)
-grows B (known z) tail-claim h = refl
-grows B lost e h = refl
+grows income B (known z) no-claim h = plus-at-most B income z h
+grows income B (known z) (claim x) h = minus-at-most (B + income) x (z +ℤ pos income) (plus-at-most B income z h)
+grows income B (known z) tail-claim h = refl
+grows income B lost e h = refl
 
 at-most-up : (B C : ℕ) (z : ℤ) → at-most B (known z) ≡ true → B ≤ C → at-most C (known z) ≡ true
 unfolding at-most
@@ -62,20 +62,20 @@ below-one (known (negsuc z)) h = refl
 below-one lost h = refl
 
 -- a claim of at least the level at which it comes ruins
-large-claim-ruins : (B x : ℕ) (u : Surplus) → at-most B u ≡ true → B + gain ≤ x → at-least 1 (next-surplus u (claim x)) ≡ false
+large-claim-ruins : (income B x : ℕ) (u : Surplus) → at-most B u ≡ true → B + income ≤ x → at-least 1 (next-surplus income u (claim x)) ≡ false
 unfolding next-surplus at-most
-large-claim-ruins B x (known z) h l =
-    below-one (known (z +ℤ pos gain -ℤ pos x)) (minus-below x (z +ℤ pos gain) (at-most-up (B + gain) x (z +ℤ pos gain) (plus-at-most B gain z h) l))
-large-claim-ruins B x lost h l = below-one lost refl
+large-claim-ruins income B x (known z) h l =
+    below-one (known (z +ℤ pos income -ℤ pos x)) (minus-below x (z +ℤ pos income) (at-most-up (B + income) x (z +ℤ pos income) (plus-at-most B income z h) l))
+large-claim-ruins income B x lost h l = below-one lost refl
 
 -- in any month of any history, and in that month itself
 pub ruins-then :
-    (B x : ℕ) (u : Surplus) → at-most B u ≡ true → (before after : History) → largest-level B (suc (length before)) ≤ x →
-    at-least 1 (getD (surplus-path u (before ++ claim x ∷ after)) (length before) (known (pos 1))) ≡ false
+    (income B x : ℕ) (u : Surplus) → at-most B u ≡ true → (before after : History) → largest-level income B (suc (length before)) ≤ x →
+    at-least 1 (getD (surplus-path income u (before ++ claim x ∷ after)) (length before) (known (pos 1))) ≡ false
 unfolding surplus-path largest-level
-ruins-then B x u h [] after l = large-claim-ruins B x u h (omega (arith, mul-one gain))
-ruins-then B x u h (e ∷ before) after l =
-    ruins-then (B + gain) x (next-surplus u e) (grows B u e h) before after (omega (arith, mul-suc gain (suc (length before))))
+ruins-then income B x u h [] after l = large-claim-ruins income B x u h (omega (arith, mul-one income))
+ruins-then income B x u h (e ∷ before) after l =
+    ruins-then income (B + income) x (next-surplus income u e) (grows income B u e h) before after (omega (arith, mul-suc income (suc (length before))))
 
 -- a test that fails at one place fails of the list; the default passes it, so the place is inside
 pub all-fails : {A : Type 0} (f : A → Bool) (d : A) → f d ≡ true → (xs : List A) (i : ℕ) → f (getD xs i d) ≡ false → all f xs ≡ false

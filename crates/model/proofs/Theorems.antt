@@ -18,7 +18,7 @@ use Rattle.model.specs.declared.Question.the-variants.{Survive}
 use Rattle.model.specs.Scale.{S}
 use Rattle.model.specs.Sums.{sum, product, total}
 use Rattle.model.specs.Plan.{Plan, plan-of, horizon, sizes, nth}
-use Rattle.model.specs.Levels.{gain, largest-level}
+use Rattle.model.specs.Levels.{largest-level}
 use Rattle.model.specs.History.{History, claim, known, at-least, at-most}
 use Rattle.model.specs.Exact.{path-from, survives, keeps, first-ruin, weight-of, exact, exact-ruin, exact-count}
 use Rattle.model.specs.MonthRule.{Row, Month, month, exact-month, kept, claimed-row, values, value, rule-of, last-of, claims-of, opening-allowed, ruin-weight, ruin-row, carried-back}
@@ -41,7 +41,7 @@ use Rattle.model.proofs.Tail.{ruins-then, all-fails}
 
 -- the rows that a month of a question's rule reads, by the claims left: those of the months that follow it, from the last rows
 abbrev pub rows-read : Rounding → Plan → Question → (ℕ → Row) → List ℕ → ℕ → Row
-rows-read round p q last later k = kept (rule-of q .allowed) (values (month round (p .severity)) (rule-of q) last later k)
+rows-read round p q last later k = kept (rule-of q .allowed) (values (month round (p .income) (p .severity)) (rule-of q) last later k)
 
 pub positive : (n : ℕ) → 0 < S ^ n
 positive n = one-le-pow n S scale-positive
@@ -108,23 +108,28 @@ module _ (h : Head) (row : List ℕ) (accepted : Accepted h row) where
   pub severity-fits : total (p .severity) ≤ S
   severity-fits = omega (arith, weights-add)
 
+  pub income-some : 0 < p .income
+  unfolding plan-of
+  income-some = facts h row accepted .head .income-some
+
   -- Demand 2: unrounded, the month rule is W, the weight of the histories that keep the question's condition …
-  pub unrounded : (q : Question) → value (exact-month (p .severity)) p q ≡ exact p q * S
-  unrounded q = unrounded-is-exact p q
+  pub unrounded : (q : Question) → value (exact-month (p .income) (p .severity)) p q ≡ exact p q * S
+  unrounded q = unrounded-is-exact p income-some q
 
   -- … so is each place of the count row …
   pub unrounded-count : (k : ℕ) → after-months exact-count-month (p .chances) no-months k ≡ exact-count p k * S
   unrounded-count k = unrounded-count-is-exact p weights-add k
 
-  -- … and survival is the published first-claim recursion: "With rounding left out … survive equals the recursion of source document 000, Theorem 2.1" …
-  pub unrounded-is-first-claim : value (exact-month (p .severity)) p Survive ≡ first-claim-survival p * S
-  unrounded-is-first-claim = survive-is-first-claim p chances-fit
+  -- … and survival with an income of 1 is the published first-claim recursion: "With rounding left out … survive equals the recursion of source document 000,
+  -- Theorem 2.1", "for c = 1 alone" …
+  pub unrounded-is-first-claim : p .income ≡ 1 → value (exact-month (p .income) (p .severity)) p Survive ≡ first-claim-survival p * S
+  unrounded-is-first-claim one = survive-is-first-claim p one chances-fit
 
   -- … so W is, too.
-  pub survival-is-first-claim : exact p Survive ≡ first-claim-survival p
-  survival-is-first-claim =
+  pub survival-is-first-claim : p .income ≡ 1 → exact p Survive ≡ first-claim-survival p
+  survival-is-first-claim one =
       eq-of-mul-eq-mul-right S scale-positive (exact p Survive) (first-claim-survival p)
-      (sym (unrounded Survive) ∙ unrounded-is-first-claim)
+      (sym (unrounded Survive) ∙ unrounded-is-first-claim one)
 
   -- the recursion's last term is never cut off at 0: the sum over first-claim months does not pass 1, in all months and in those after a claim in month t
   pub first-claims-fit : (t : ℕ) → some-claim (drop t (p .chances)) ≤ S ^ (2 * length (drop t (p .chances)))
@@ -149,18 +154,18 @@ module _ (h : Head) (row : List ℕ) (accepted : Accepted h row) where
     where
       one-side :
           {rel : ℕ → ℕ → Type 0} {round : Rounding} (d : Direction rel round) →
-          rel (bound round p q * S ^ (2 * horizon p)) (value (exact-month (p .severity)) p q)
+          rel (bound round p q * S ^ (2 * horizon p)) (value (exact-month (p .income) (p .severity)) p q)
       one-side {rel} {round} d =
           kept-rel (λ a e. rel (a * S ^ (2 * horizon p)) e) (rw zero-mul (d .same 0)) (opening-allowed q) _ _ (p .opening)
           (rw mul-one at
-          (values-enclose d (p .severity) (rule-of q) (last-of q) (last-of q) 1 (λ k s. rw mul-one (d .same _)) (p .chances) chances-fit (claims-of q)
+          (values-enclose d (p .income) (p .severity) (rule-of q) (last-of q) (last-of q) 1 (λ k s. rw mul-one (d .same _)) (p .chances) chances-fit (claims-of q)
           (p .opening)))
 
       gap : upper p q ≤ lower p q + month-gap * live-months (p .chances)
       gap =
           kept-rel (λ a b. b ≤ a + month-gap * live-months (p .chances)) (omega arith) (opening-allowed q) _ _ (p .opening)
           (rw zero-add at
-          (values-gap (p .severity) severity-fits (rule-of q) (last-of q) (last-of q) 0 (λ k s. omega arith) (p .chances) chances-fit (claims-of q)
+          (values-gap (p .income) (p .severity) severity-fits (rule-of q) (last-of q) (last-of q) 0 (λ k s. omega arith) (p .chances) chances-fit (claims-of q)
           (p .opening)))
 
   pub count-enclosure :
@@ -185,21 +190,21 @@ module _ (h : Head) (row : List ℕ) (accepted : Accepted h row) where
 
   -- the row before month t, where it ruins: rounded, and exact in parts of S × S
   abbrev pub before : Rounding → ℕ → Row
-  before round t = ruin-row round (p .severity) (p .tail) (nth (p .chances) t)
+  before round t = ruin-row round (p .income) (p .severity) (p .tail) (nth (p .chances) t)
 
   abbrev pub exact-before : ℕ → Row
-  exact-before t s = nth (p .chances) t * ruin-weight (p .severity) (p .tail) (s + gain)
+  exact-before t s = nth (p .chances) t * ruin-weight (p .severity) (p .tail) (s + p .income)
 
   -- Document 02, ruin in month t. With rounding left out the rule is W, where each month after t multiplies the weight by S × S …
   pub unrounded-ruin :
       (t : ℕ) → 0 < t → t ≤ horizon p →
-      carried-back (exact-month (p .severity)) p t (exact-before t) * S ^ (2 * (horizon p - t)) ≡ exact-ruin p t
+      carried-back (exact-month (p .income) (p .severity)) p t (exact-before t) * S ^ (2 * (horizon p - t)) ≡ exact-ruin p t
   unfolding exact-ruin nth
   unrounded-ruin zero some l = absurd (omega arith)
   unrounded-ruin (suc i) some l =
-      ap (λ (v : ℕ). v * S ^ (2 * (horizon p - suc i))) (carried-is (exact-month (p .severity)) p i (exact-before (suc i)))
-      ∙ sym (unrounded-ruin-is-exact (p .severity) (p .tail) weights-add (p .chances) chances-fit i l (p .opening))
-      ∙ sym (weight-is p (first-ruin (suc i) (p .opening)))
+      ap (λ (v : ℕ). v * S ^ (2 * (horizon p - suc i))) (carried-is (exact-month (p .income) (p .severity)) p i (exact-before (suc i)))
+      ∙ sym (unrounded-ruin-is-exact (p .income) (p .severity) (p .tail) income-some weights-add (p .chances) chances-fit i l (p .opening))
+      ∙ sym (weight-is p (first-ruin (p .income) (suc i) (p .opening)))
 
   -- … enclosure and gap hold, "the gap rule counting months 1 to t" …
   pub ruin-enclosure :
@@ -227,20 +232,20 @@ module _ (h : Head) (row : List ℕ) (accepted : Accepted h row) where
       one-side :
           {rel : ℕ → ℕ → Type 0} {round : Rounding} (d : Direction rel round) →
           rel (ruin-bound round p t * S ^ (2 * horizon p))
-          (carried-back (exact-month (p .severity)) p t (exact-before t) * S ^ (2 * (horizon p - t)) * S)
+          (carried-back (exact-month (p .income) (p .severity)) p t (exact-before t) * S ^ (2 * (horizon p - t)) * S)
       one-side {rel} {round} d =
           rw after at
           (month-scaled d (t - 1) (horizon p) _ _ (omega arith)
           (rw count at
-          (values-enclose d (p .severity) (rule-of Survive) (λ _. before round t) (λ _. exact-before t) S
-          (λ k s. ruin-row-encloses d (p .severity) (p .tail) (nth (p .chances) t) s) early early-fit 0 (p .opening))))
+          (values-enclose d (p .income) (p .severity) (rule-of Survive) (λ _. before round t) (λ _. exact-before t) S
+          (λ k s. ruin-row-encloses d (p .income) (p .severity) (p .tail) (nth (p .chances) t) s) early early-fit 0 (p .opening))))
 
       gap : ruin-upper p t ≤ ruin-lower p t + month-gap * live-months (months-to p t)
       gap =
           omega (
             arith,
-            values-gap (p .severity) severity-fits (rule-of Survive) (λ _. before Down t) (λ _. before Up t) (month-gap * live-months (nth (p .chances) t ∷ []))
-                (λ k s. ruin-row-gap (p .severity) (p .tail) (nth (p .chances) t) s) early early-fit 0 (p .opening),
+            values-gap (p .income) (p .severity) severity-fits (rule-of Survive) (λ _. before Down t) (λ _. before Up t) (month-gap * live-months (nth (p .chances) t ∷ []))
+                (λ k s. ruin-row-gap (p .income) (p .severity) (p .tail) (nth (p .chances) t) s) early early-fit 0 (p .opening),
             live-months-append early (nth (p .chances) t ∷ []),
             ap live-months (one-month-more t some l),
           )
@@ -250,9 +255,9 @@ module _ (h : Head) (row : List ℕ) (accepted : Accepted h row) where
   unfolding exact-ruin exact keeps
   ruins-and-survival =
       ap₂ (λ (a b : ℕ). a + b)
-      (ap (sum (horizon p)) (fun-ext (λ t. weight-is p (first-ruin t (p .opening)))))
-      (weight-is p (survives (p .opening)))
-      ∙ ruins-make-up (p .severity) (p .tail) (p .chances) (p .opening)
+      (ap (sum (horizon p)) (fun-ext (λ t. weight-is p (first-ruin (p .income) t (p .opening)))))
+      (weight-is p (survives (p .income) (p .opening)))
+      ∙ ruins-make-up (p .income) (p .severity) (p .tail) (p .chances) (p .opening)
       ∙ sym (weight-is p (λ _. true))
       ∙ all-histories
 
@@ -278,7 +283,7 @@ module _ (h : Head) (row : List ℕ) (accepted : Accepted h row) where
   -- Months after t have no part in the bounds of ruin in month t.
   pub ruin-before :
       (round : Rounding) (t : ℕ) → 0 < t →
-      ruin-bound round p t ≡ ruin-bound round (record { opening = p .opening; chances = take t (p .chances); severity = p .severity; tail = p .tail }) t
+      ruin-bound round p t ≡ ruin-bound round (record { opening = p .opening; income = p .income; chances = take t (p .chances); severity = p .severity; tail = p .tail }) t
   unfolding ruin-bound carried-back nth
   ruin-before round zero some = absurd (omega arith)
   ruin-before round (suc i) some =
@@ -289,11 +294,11 @@ module _ (h : Head) (row : List ℕ) (accepted : Accepted h row) where
   pub tail-claim-ruins-then :
       0 < p .tail → (x : ℕ) → sizes p < x →
       (before after : History) → length (before ++ claim x ∷ after) ≡ horizon p →
-      at-least 1 (getD (path-from (p .opening) (before ++ claim x ∷ after)) (length before) (known (pos 1))) ≡ false
+      at-least 1 (getD (path-from (p .income) (p .opening) (before ++ claim x ∷ after)) (length before) (known (pos 1))) ≡ false
   unfolding at-most
   tail-claim-ruins-then some x large before after months =
-      ruins-then u x (known (pos u)) (le-leb u u (le-refl u)) before after
-      (omega (arith, facts h row accepted .tail-ruins some, level-later u (suc (length before)) (horizon p) (omega (arith, months, length-append before (claim x ∷ after)))))
+      ruins-then (p .income) u x (known (pos u)) (le-leb u u (le-refl u)) before after
+      (omega (arith, facts h row accepted .tail-ruins some, level-later (p .income) u (suc (length before)) (horizon p) (omega (arith, months, length-append before (claim x ∷ after)))))
     where
       u : ℕ
       u = p .opening
@@ -302,10 +307,10 @@ module _ (h : Head) (row : List ℕ) (accepted : Accepted h row) where
   pub tail-claim-ruins :
       0 < p .tail → (x : ℕ) → sizes p < x →
       (before after : History) → length (before ++ claim x ∷ after) ≡ horizon p →
-      survives (p .opening) (before ++ claim x ∷ after) ≡ false
+      survives (p .income) (p .opening) (before ++ claim x ∷ after) ≡ false
   unfolding survives at-least
   tail-claim-ruins some x large before after months =
-      all-fails (at-least 1) (known (pos 1)) refl (path-from (p .opening) (before ++ claim x ∷ after)) (length before)
+      all-fails (at-least 1) (known (pos 1)) refl (path-from (p .income) (p .opening) (before ++ claim x ∷ after)) (length before)
       (tail-claim-ruins-then some x large before after months)
 
   pub bounds-ordered : (q : Question) → lower p q ≤ upper p q
@@ -322,18 +327,18 @@ module _ (h : Head) (row : List ℕ) (accepted : Accepted h row) where
   unfolding bound value
   bound-fits round q =
       kept-fits (opening-allowed q) _ (p .opening)
-      (values-fit round (p .severity) severity-fits (rule-of q) (last-of q) (last-fits q) (p .chances) chances-fit (claims-of q) (p .opening))
+      (values-fit round (p .income) (p .severity) severity-fits (rule-of q) (last-of q) (last-fits q) (p .chances) chances-fit (claims-of q) (p .opening))
 
   pub bounds-fit : (q : Question) → (lower p q ≤ S) × (upper p q ≤ S)
   bounds-fit q = (bound-fits Down q, bound-fits Up q)
 
   before-fits : (round : Rounding) (t s : ℕ) → before round t s ≤ S
-  before-fits round t s = ruin-row-fits (p .severity) (p .tail) weights-fit round (nth (p .chances) t) (chance-fits t) s
+  before-fits round t s = ruin-row-fits (p .income) (p .severity) (p .tail) weights-fit round (nth (p .chances) t) (chance-fits t) s
 
   ruin-fits : (round : Rounding) (t : ℕ) → ruin-bound round p t ≤ S
   unfolding ruin-bound carried-back
   ruin-fits round t =
-      values-fit round (p .severity) severity-fits (rule-of Survive) (λ _. before round t) (λ _ s. before-fits round t s)
+      values-fit round (p .income) (p .severity) severity-fits (rule-of Survive) (λ _. before round t) (λ _ s. before-fits round t s)
       (take (t - 1) (p .chances)) (take-fits S (t - 1) (p .chances) chances-fit) (claims-of Survive) (p .opening)
 
   pub ruins-fit : (t : ℕ) → (ruin-lower p t ≤ S) × (ruin-upper p t ≤ S)
@@ -348,20 +353,20 @@ module _ (h : Head) (row : List ℕ) (accepted : Accepted h row) where
 
   -- V_t of a question, by the claims left and the level: the row of the months after t
   abbrev pub row-after : Rounding → Question → ℕ → ℕ → Row
-  row-after round q t = values (month round (p .severity)) (rule-of q) (last-of q) (drop t (p .chances))
+  row-after round q t = values (month round (p .income) (p .severity)) (rule-of q) (last-of q) (drop t (p .chances))
 
   -- "in the month when no level reaches the target any more": no value of an earlier month r is above the largest of month t's row, as far as the levels that the
   -- fund can reach.
   pub never-above :
-      (round : Rounding) (q : Question) (B r t : ℕ) → r ≤ t → ((k s : ℕ) → s ≤ largest-level (p .opening) t → row-after round q t k s ≤ B) →
-      (k s : ℕ) → s ≤ largest-level (p .opening) r → row-after round q r k s ≤ B
+      (round : Rounding) (q : Question) (B r t : ℕ) → r ≤ t → ((k s : ℕ) → s ≤ largest-level (p .income) (p .opening) t → row-after round q t k s ≤ B) →
+      (k s : ℕ) → s ≤ largest-level (p .income) (p .opening) r → row-after round q r k s ≤ B
   never-above round q =
-      values-never-above round (p .severity) severity-fits (rule-of q) (last-of q) (p .chances) chances-fit (p .opening)
+      values-never-above round (p .income) (p .severity) severity-fits (rule-of q) (last-of q) (p .chances) chances-fit (p .opening)
 
   -- "No sum need pass 2^62": what month t works out at level s with k claims left, over the months that follow it
   abbrev MonthWithin : Rounding → Question → (ℕ → Row) → ℕ → List ℕ → ℕ → ℕ → Type 0
   MonthWithin round q last t later k s =
-      MonthLimits round (p .severity) (nth (p .chances) t) (rows-read round p q last later k)
+      MonthLimits round (p .income) (p .severity) (nth (p .chances) t) (rows-read round p q last later k)
       (claimed-row (rows-read round p q last later) (rule-of q .after-claim k)) s
 
   month-within :
@@ -369,7 +374,7 @@ module _ (h : Head) (row : List ℕ) (accepted : Accepted h row) where
       (t : ℕ) (later : List ℕ) → ((i : ℕ) → getD later i 0 ≤ S) → (k s : ℕ) → MonthWithin round q last t later k s
   month-within round q last fits t later later-fit k s =
       month-limited
-      (months-fit round (p .severity) severity-fits (rule-of q) last fits (nth (p .chances) t) (chance-fits t) later later-fit k s)
+      (months-fit round (p .income) (p .severity) severity-fits (rule-of q) last fits (nth (p .chances) t) (chance-fits t) later later-fit k s)
 
   -- in a question
   pub month-limits : (round : Rounding) (q : Question) (t k s : ℕ) → MonthWithin round q (last-of q) t (drop t (p .chances)) k s
@@ -380,11 +385,11 @@ module _ (h : Head) (row : List ℕ) (accepted : Accepted h row) where
   pub ruin-limits :
       (round : Rounding) (r t k s : ℕ) →
       MonthWithin round Survive (λ _. before round r) t (drop t (take (r - 1) (p .chances))) k s
-      × RuinLimits (p .severity) (p .tail) (nth (p .chances) r) s
+      × RuinLimits (p .income) (p .severity) (p .tail) (nth (p .chances) r) s
   ruin-limits round r t k s = (
     month-within round Survive (λ _. before round r) (λ _ l. before-fits round r l) t (drop t (take (r - 1) (p .chances)))
         (λ i. rw getD-drop (take-fits S (r - 1) (p .chances) chances-fit (t + i))) k s,
-    ruin-limited (p .severity) (p .tail) weights-fit (nth (p .chances) r) (chance-fits r) s,
+    ruin-limited (p .income) (p .severity) (p .tail) weights-fit (nth (p .chances) r) (chance-fits r) s,
   )
 
   -- the same of month t of the count row, over the row of the months before it

@@ -19,9 +19,8 @@ use Rattle.model.specs.Refusal.{Accepted}
 use Rattle.model.proofs.Distances.{distance-le, within-distance, apart-comm}
 use Rattle.model.proofs.Moves.{Near}
 use Rattle.model.proofs.Month.{scale-positive}
-use Rattle.model.proofs.Questions.{unrounded-is-exact}
 use Rattle.model.proofs.Rising.{Rising, exact-month-rises, month-rises, values-rise}
-use Rattle.model.proofs.Theorems.{positive, enclosure, count-enclosure, ruin-enclosure}
+use Rattle.model.proofs.Theorems.{positive, unrounded, enclosure, count-enclosure, ruin-enclosure}
 use Rattle.model.proofs.PlansNear.{Pair, turned, exact-near, bound-near, exact-count-near, count-row-near, exact-ruin-near, ruin-bound-near}
 
 -- Numbers that enclose two exact answers, each within its gap, are no further apart than these and the larger gap.
@@ -129,20 +128,23 @@ module _
 
 -- "neither survival bound falls when the opening grows": V_0 of survive is one rising row, which both openings read
 survival-rises-by :
-    (p p′ : Plan) → OnlyOpeningGrows p p′ → (m : List ℕ → Month) → ((F : List ℕ) (P : ℕ) (X Y : Row) → Rising X → Rising Y → Rising (m F P X Y)) →
-    value (m (p .severity)) p Survive ≤ value (m (p′ .severity)) p′ Survive
+    (p p′ : Plan) → OnlyOpeningGrows p p′ → (m : ℕ → List ℕ → Month) → ((income : ℕ) (F : List ℕ) (P : ℕ) (X Y : Row) → Rising X → Rising Y → Rising (m income F P X Y)) →
+    value (m (p .income) (p .severity)) p Survive ≤ value (m (p′ .income) (p′ .severity)) p′ Survive
 unfolding value kept opening-allowed rule-of last-of
 survival-rises-by p p′ grows m month-keeps =
-    rw (← grows .severity, ← grows .chances)
-    (values-rise (m (p .severity)) (month-keeps (p .severity)) (rule-of Survive) (λ r s l e. refl) whole (λ k r s l. le-refl S) (p .chances) (claims-of Survive)
+    rw (← grows .income, ← grows .severity, ← grows .chances)
+    (values-rise (m (p .income) (p .severity)) (month-keeps (p .income) (p .severity)) (rule-of Survive) (λ r s l e. refl) whole (λ k r s l. le-refl S) (p .chances) (claims-of Survive)
     (p .opening) (p′ .opening) (grows .opening))
 
 pub survival-rises : (p p′ : Plan) → OnlyOpeningGrows p p′ → (round : Rounding) → bound round p Survive ≤ bound round p′ Survive
 unfolding bound
 survival-rises p p′ grows round = survival-rises-by p p′ grows (month round) (month-rises round)
 
--- nor does the exact chance
-pub exact-survival-rises : (p p′ : Plan) → OnlyOpeningGrows p p′ → exact p Survive ≤ exact p′ Survive
-exact-survival-rises p p′ grows =
+-- nor does the exact chance, of accepted plans: with no income the month rule would not be that of the histories
+pub exact-survival-rises :
+    (h : Head) (row : List ℕ) → Accepted h row → (h′ : Head) (row′ : List ℕ) → Accepted h′ row′ → OnlyOpeningGrows (plan-of h row) (plan-of h′ row′) →
+    exact (plan-of h row) Survive ≤ exact (plan-of h′ row′) Survive
+exact-survival-rises h row accepted h′ row′ accepted′ grows =
     le-of-mul-le-mul-right
-    (rw (← unrounded-is-exact p Survive, ← unrounded-is-exact p′ Survive) (survival-rises-by p p′ grows exact-month exact-month-rises)) scale-positive
+    (rw (← unrounded h row accepted Survive, ← unrounded h′ row′ accepted′ Survive)
+    (survival-rises-by (plan-of h row) (plan-of h′ row′) grows exact-month exact-month-rises)) scale-positive

@@ -1,4 +1,4 @@
--- Laws of the month rule: what one month keeps of its rows, the rule keeps over all months, for every question.
+-- Laws of the month rule: what one month keeps income of its rows, the rule keeps income over all months, for every question.
 use mathlib.Core.Path.{_≡_, refl, sym, _∙_, ap, ap₂, fun-ext}
 use mathlib.Core.Bool.{Bool, true, false, cond}
 use mathlib.Core.List.{List, [], _∷_, _++_}
@@ -14,7 +14,7 @@ use Rattle.model.specs.declared.Question.{Question}
 use Rattle.model.specs.declared.Question.the-variants.{Survive, Both, High, Low}
 use Rattle.model.specs.Scale.{S}
 use Rattle.model.specs.Sums.{total, count}
-use Rattle.model.specs.Levels.{gain, largest-level}
+use Rattle.model.specs.Levels.{largest-level}
 use Rattle.model.specs.MonthRule.{Row, Month, Rule, month, exact-month, kept, claimed-row, month-back, values, all-placed, any-level, rule-of, last-of}
 use Rattle.model.specs.Bounds.{live-months, month-gap}
 use Rattle.model.proofs.SumLaws.{pow-two-more, positive-none, positive-more}
@@ -33,7 +33,7 @@ kept-rel R nothing allowed X X′ s h = go (allowed s)
     go false = nothing
 
 -- A relation between the values of two month rules, each with its own chances, which may speak of the chances still to come: if it holds of 0 and of the last
--- rows, and each month keeps it where its two chances are as they should be, then it holds of all values.
+-- rows, and each month keeps income it where its two chances are as they should be, then it holds of all values.
 module _
     (R : List ℕ → List ℕ → ℕ → ℕ → Type 0)
     (Fit : ℕ → ℕ → Type 0)
@@ -109,27 +109,27 @@ scale-is D (P ∷ Ps) =
 
 -- A rounded rule encloses the exact one, from any last rows that enclose the exact last rows at a scale D.
 pub values-enclose :
-    {rel : ℕ → ℕ → Type 0} {round : Rounding} (d : Direction rel round) (F : List ℕ) (q : Rule) (last exact-last : ℕ → Row) (D : ℕ) →
+    {rel : ℕ → ℕ → Type 0} {round : Rounding} (d : Direction rel round) (income : ℕ) (F : List ℕ) (q : Rule) (last exact-last : ℕ → Row) (D : ℕ) →
     ((k s : ℕ) → rel (last k s * D) (exact-last k s)) → (Ps : List ℕ) → ((i : ℕ) → getD Ps i 0 ≤ S) →
-    (k s : ℕ) → rel (values (month round F) q last Ps k s * (S ^ (2 * length Ps) * D)) (values (exact-month F) q exact-last Ps k s)
+    (k s : ℕ) → rel (values (month round income F) q last Ps k s * (S ^ (2 * length Ps) * D)) (values (exact-month income F) q exact-last Ps k s)
 unfolding scale
-values-enclose {rel} {round} d F q last exact-last D h Ps hP k s =
+values-enclose {rel} {round} d income F q last exact-last D h Ps hP k s =
     rw (← scale-is D Ps)
-    (values-rel (λ Qs a e. rel (a * scale D Qs) e) (month round F) (exact-month F) q last exact-last
+    (values-rel (λ Qs a e. rel (a * scale D Qs) e) (month round income F) (exact-month income F) q last exact-last
     (λ Qs. rw zero-mul (d .same 0))
     h
-    (λ P Qs hP X Y X′ Y′ hx hy. month-encloses d F P X Y X′ Y′ (scale D Qs) hx hy)
+    (λ P Qs hP X Y X′ Y′ hx hy. month-encloses d income F P X Y X′ Y′ (scale D Qs) hx hy)
     Ps hP k s)
 
--- the unrounded rule keeps a factor common to all values of its last rows
+-- the unrounded rule keeps income a factor common to all values of its last rows
 pub values-times :
-    (F : List ℕ) (q : Rule) (last : ℕ → Row) (c : ℕ) (Ps : List ℕ) → ((i : ℕ) → getD Ps i 0 ≤ S) →
-    (k s : ℕ) → values (exact-month F) q last Ps k s * c ≡ values (exact-month F) q (λ k s. last k s * c) Ps k s
+    (income : ℕ) (F : List ℕ) (q : Rule) (last : ℕ → Row) (c : ℕ) (Ps : List ℕ) → ((i : ℕ) → getD Ps i 0 ≤ S) →
+    (k s : ℕ) → values (exact-month income F) q last Ps k s * c ≡ values (exact-month income F) q (λ k s. last k s * c) Ps k s
 unfolding exact-month
-values-times F q last c =
-    values-rel (λ Qs a b. a * c ≡ b) (exact-month F) (exact-month F) q last (λ k s. last k s * c) (λ Qs. zero-mul c) (λ k s. refl)
+values-times income F q last c =
+    values-rel (λ Qs a b. a * c ≡ b) (exact-month income F) (exact-month income F) q last (λ k s. last k s * c) (λ Qs. zero-mul c) (λ k s. refl)
     (λ P Qs hP X Y X′ Y′ hx hy s.
-    rw (← fun-ext hx, ← fun-ext hy, ← claim-sum-times F Y c (s + gain)) (simp (add-mul, mul-assoc)))
+    rw (← fun-ext hx, ← fun-ext hy, ← claim-sum-times F Y c (s + income)) (simp (add-mul, mul-assoc)))
 
 pub kept-fits : {B : ℕ} (allowed : ℕ → Bool) (X : Row) (s : ℕ) → X s ≤ B → kept allowed X s ≤ B
 kept-fits {B} allowed X s h = kept-rel (λ a b. a ≤ B) zero-le allowed X X s h
@@ -141,33 +141,33 @@ claimed-fits X (some k) s h = h k
 
 -- a month's values, and then those of all months, are not above the largest of the rows after them, as far as the levels that the months lead to
 month-back-below :
-    (round : Rounding) (F : List ℕ) → total F ≤ S → (q : Rule) (P : ℕ) → P ≤ S → (N : ℕ → Row) (B k s : ℕ) → ((j r : ℕ) → r ≤ s + gain → N j r ≤ B) →
-    month-back (month round F) q P N k s ≤ B
+    (round : Rounding) (income : ℕ) (F : List ℕ) → total F ≤ S → (q : Rule) (P : ℕ) → P ≤ S → (N : ℕ → Row) (B k s : ℕ) → ((j r : ℕ) → r ≤ s + income → N j r ≤ B) →
+    month-back (month round income F) q P N k s ≤ B
 unfolding month-back
-month-back-below round F hF q P hP N B k s h =
-    month-le round F hF P hP _ _ B s (rows k (s + gain) (le-refl (s + gain)))
+month-back-below round income F hF q P hP N B k s h =
+    month-le round income F hF P hP _ _ B s (rows k (s + income) (le-refl (s + income)))
     (λ r l. claimed-fits (λ j. kept (q .allowed) (N j)) (q .after-claim k) r (λ j. rows j r (omega arith)))
   where
-    rows : (j r : ℕ) → r ≤ s + gain → kept (q .allowed) (N j) r ≤ B
+    rows : (j r : ℕ) → r ≤ s + income → kept (q .allowed) (N j) r ≤ B
     rows j r l = kept-fits (q .allowed) (N j) r (h j r l)
 
 pub values-below :
-    (round : Rounding) (F : List ℕ) → total F ≤ S → (q : Rule) (last : ℕ → Row) (B top : ℕ) → ((k s : ℕ) → s ≤ top → last k s ≤ B) →
-    (Ps : List ℕ) → ((i : ℕ) → getD Ps i 0 ≤ S) → (k s : ℕ) → largest-level s (length Ps) ≤ top → values (month round F) q last Ps k s ≤ B
+    (round : Rounding) (income : ℕ) (F : List ℕ) → total F ≤ S → (q : Rule) (last : ℕ → Row) (B top : ℕ) → ((k s : ℕ) → s ≤ top → last k s ≤ B) →
+    (Ps : List ℕ) → ((i : ℕ) → getD Ps i 0 ≤ S) → (k s : ℕ) → largest-level income s (length Ps) ≤ top → values (month round income F) q last Ps k s ≤ B
 unfolding values
-values-below round F hF q last B top hl [] hP k s l = hl k s (omega (arith, level-start s))
-values-below round F hF q last B top hl (P ∷ Ps) hP k s l =
-    month-back-below round F hF q P (hP 0) (values (month round F) q last Ps) B k s
+values-below round income F hF q last B top hl [] hP k s l = hl k s (omega (arith, level-start income s))
+values-below round income F hF q last B top hl (P ∷ Ps) hP k s l =
+    month-back-below round income F hF q P (hP 0) (values (month round income F) q last Ps) B k s
     (λ j r m.
-    values-below round F hF q last B top hl Ps (λ i. hP (suc i)) j r
-    (omega (arith, level-next s (length Ps), level-from r (s + gain) (length Ps) m)))
+    values-below round income F hF q last B top hl Ps (λ i. hP (suc i)) j r
+    (omega (arith, level-next income s (length Ps), level-from income r (s + income) (length Ps) m)))
 
 -- so none passes S
 pub values-fit :
-    (round : Rounding) (F : List ℕ) → total F ≤ S → (q : Rule) (last : ℕ → Row) → ((k s : ℕ) → last k s ≤ S) →
-    (Ps : List ℕ) → ((i : ℕ) → getD Ps i 0 ≤ S) → (k s : ℕ) → values (month round F) q last Ps k s ≤ S
-values-fit round F hF q last hl Ps hP k s =
-    values-below round F hF q last S (largest-level s (length Ps)) (λ j r l. hl j r) Ps hP k s (le-refl _)
+    (round : Rounding) (income : ℕ) (F : List ℕ) → total F ≤ S → (q : Rule) (last : ℕ → Row) → ((k s : ℕ) → last k s ≤ S) →
+    (Ps : List ℕ) → ((i : ℕ) → getD Ps i 0 ≤ S) → (k s : ℕ) → values (month round income F) q last Ps k s ≤ S
+values-fit round income F hF q last hl Ps hP k s =
+    values-below round income F hF q last S (largest-level income s (length Ps)) (λ j r l. hl j r) Ps hP k s (le-refl _)
 
 -- the months of one list on top of those of another
 pub values-append :
@@ -186,14 +186,14 @@ claims-alike m (P ∷ Ps) k =
 
 -- No value before a month is above the largest after a later one, as far as the levels that are reached from u.
 pub values-never-above :
-    (round : Rounding) (F : List ℕ) → total F ≤ S → (q : Rule) (last : ℕ → Row) (Ps : List ℕ) → ((i : ℕ) → getD Ps i 0 ≤ S) → (u B r t : ℕ) → r ≤ t →
-    ((k s : ℕ) → s ≤ largest-level u t → values (month round F) q last (drop t Ps) k s ≤ B) →
-    (k s : ℕ) → s ≤ largest-level u r → values (month round F) q last (drop r Ps) k s ≤ B
-values-never-above round F hF q last Ps hP u B r t l h k s m =
-    rw (months, values-append (month round F) q last between (drop t Ps))
-    (values-below round F hF q (values (month round F) q last (drop t Ps)) B (largest-level u t) h between
+    (round : Rounding) (income : ℕ) (F : List ℕ) → total F ≤ S → (q : Rule) (last : ℕ → Row) (Ps : List ℕ) → ((i : ℕ) → getD Ps i 0 ≤ S) → (u B r t : ℕ) → r ≤ t →
+    ((k s : ℕ) → s ≤ largest-level income u t → values (month round income F) q last (drop t Ps) k s ≤ B) →
+    (k s : ℕ) → s ≤ largest-level income u r → values (month round income F) q last (drop r Ps) k s ≤ B
+values-never-above round income F hF q last Ps hP u B r t l h k s m =
+    rw (months, values-append (month round income F) q last between (drop t Ps))
+    (values-below round income F hF q (values (month round income F) q last (drop t Ps)) B (largest-level income u t) h between
     (take-fits S (t - r) (drop r Ps) (λ i. rw (getD-drop r Ps i 0) (hP (r + i)))) k s
-    (reachable u s r t (length between) m (omega (arith, length-take (t - r) (drop r Ps)))))
+    (reachable income u s r t (length between) m (omega (arith, length-take (t - r) (drop r Ps)))))
   where
     between : List ℕ
     between = take (t - r) (drop r Ps)
@@ -222,20 +222,20 @@ live-months-append (suc P ∷ Ps) Qs = rw (live-months-live P (Ps ++ Qs), live-m
 
 -- The two bounds are apart by at most the gap of their last rows and the allowance of the months with a chance above 0.
 pub values-gap :
-    (F : List ℕ) → total F ≤ S → (q : Rule) (last last′ : ℕ → Row) (g : ℕ) → ((k s : ℕ) → last′ k s ≤ last k s + g) →
+    (income : ℕ) (F : List ℕ) → total F ≤ S → (q : Rule) (last last′ : ℕ → Row) (g : ℕ) → ((k s : ℕ) → last′ k s ≤ last k s + g) →
     (Ps : List ℕ) → ((i : ℕ) → getD Ps i 0 ≤ S) →
-    (k s : ℕ) → values (month Up F) q last′ Ps k s ≤ values (month Down F) q last Ps k s + (g + month-gap * live-months Ps)
-values-gap F hF q last last′ g hl =
-    values-rel (λ Qs a b. b ≤ a + (g + month-gap * live-months Qs)) (month Down F) (month Up F) q last last′
+    (k s : ℕ) → values (month Up income F) q last′ Ps k s ≤ values (month Down income F) q last Ps k s + (g + month-gap * live-months Ps)
+values-gap income F hF q last last′ g hl =
+    values-rel (λ Qs a b. b ≤ a + (g + month-gap * live-months Qs)) (month Down income F) (month Up income F) q last last′
     (λ Qs. omega arith) (λ k s. omega (arith, hl k s)) step
   where
     step :
         (P : ℕ) (Qs : List ℕ) → P ≤ S → (X Y X′ Y′ : Row) →
         ((s : ℕ) → X′ s ≤ X s + (g + month-gap * live-months Qs)) → ((s : ℕ) → Y′ s ≤ Y s + (g + month-gap * live-months Qs)) →
-        (s : ℕ) → month Up F P X′ Y′ s ≤ month Down F P X Y s + (g + month-gap * live-months (P ∷ Qs))
-    step zero Qs hP X Y X′ Y′ hx hy s = rw live-months-idle (month-gap-idle F X Y X′ Y′ (g + month-gap * live-months Qs) hx s)
+        (s : ℕ) → month Up income F P X′ Y′ s ≤ month Down income F P X Y s + (g + month-gap * live-months (P ∷ Qs))
+    step zero Qs hP X Y X′ Y′ hx hy s = rw live-months-idle (month-gap-idle income F X Y X′ Y′ (g + month-gap * live-months Qs) hx s)
     step (suc P) Qs hP X Y X′ Y′ hx hy s =
-        rw live-months-live (omega (arith, month-gap-live F hF (suc P) hP X Y X′ Y′ (g + month-gap * live-months Qs) hx hy s))
+        rw live-months-live (omega (arith, month-gap-live income F hF (suc P) hP X Y X′ Y′ (g + month-gap * live-months Qs) hx hy s))
 
 -- every question's last row holds S or 0
 pub last-fits : (q : Question) (k s : ℕ) → last-of q k s ≤ S
@@ -248,12 +248,12 @@ last-fits (Low L) k s = le-refl S
 
 -- what a month of the rule works out at a level, over the rows of the months that follow it
 pub months-fit :
-    (round : Rounding) (F : List ℕ) → total F ≤ S → (q : Rule) (last : ℕ → Row) → ((k s : ℕ) → last k s ≤ S) →
+    (round : Rounding) (income : ℕ) (F : List ℕ) → total F ≤ S → (q : Rule) (last : ℕ → Row) → ((k s : ℕ) → last k s ≤ S) →
     (P : ℕ) → P ≤ S → (Ps : List ℕ) → ((i : ℕ) → getD Ps i 0 ≤ S) → (k s : ℕ) →
-    MonthFits round F P (kept (q .allowed) (values (month round F) q last Ps k))
-    (claimed-row (λ j. kept (q .allowed) (values (month round F) q last Ps j)) (q .after-claim k)) s
-months-fit round F hF q last hl P hP Ps hPs k s =
-    month-fits round F hF P hP _ _ (rows k) (λ r. claimed-fits (λ j. kept (q .allowed) (values (month round F) q last Ps j)) (q .after-claim k) r (λ j. rows j r)) s
+    MonthFits round income F P (kept (q .allowed) (values (month round income F) q last Ps k))
+    (claimed-row (λ j. kept (q .allowed) (values (month round income F) q last Ps j)) (q .after-claim k)) s
+months-fit round income F hF q last hl P hP Ps hPs k s =
+    month-fits round income F hF P hP _ _ (rows k) (λ r. claimed-fits (λ j. kept (q .allowed) (values (month round income F) q last Ps j)) (q .after-claim k) r (λ j. rows j r)) s
   where
-    rows : (j r : ℕ) → kept (q .allowed) (values (month round F) q last Ps j) r ≤ S
-    rows j r = kept-fits (q .allowed) (values (month round F) q last Ps j) r (values-fit round F hF q last hl Ps hPs j r)
+    rows : (j r : ℕ) → kept (q .allowed) (values (month round income F) q last Ps j) r ≤ S
+    rows j r = kept-fits (q .allowed) (values (month round income F) q last Ps j) r (values-fit round income F hF q last hl Ps hPs j r)

@@ -9,7 +9,6 @@ use Rattle.model.specs.declared.Question.{Question}
 use Rattle.model.specs.Scale.{S}
 use Rattle.model.specs.Sums.{sum, count}
 use Rattle.model.specs.Plan.{Plan, horizon, nth}
-use Rattle.model.specs.Levels.{gain}
 use Rattle.model.specs.Exact.{exact, exact-ruin, exact-count}
 use Rattle.model.specs.MonthRule.{Row, claim-sum, month, value, ruin-weight, ruin-row, carried-back}
 use Rattle.model.specs.SplitMonth.{split-parts}
@@ -17,7 +16,7 @@ use Rattle.model.specs.CountRow.{one-before, count-row}
 
 -- the month rule's answer, rounded
 unfoldable pub bound : Rounding → Plan → Question → ℕ
-bound round p q = value (month round (p .severity)) p q
+bound round p q = value (month round (p .income) (p .severity)) p q
 
 abbrev pub lower : Plan → Question → ℕ
 lower p q = bound Down p q
@@ -34,7 +33,7 @@ count-upper p k = count-row Up (p .chances) k
 -- Document 02, of a month's line `fails t`: the value before month t, carried back to the opening
 unfoldable pub ruin-bound : Rounding → Plan → ℕ → ℕ
 ruin-bound round p t =
-    carried-back (month round (p .severity)) p t (ruin-row round (p .severity) (p .tail) (nth (p .chances) t))
+    carried-back (month round (p .income) (p .severity)) p t (ruin-row round (p .income) (p .severity) (p .tail) (nth (p .chances) t))
 
 abbrev pub ruin-lower : Plan → ℕ → ℕ
 ruin-lower p t = ruin-bound Down p t
@@ -85,12 +84,12 @@ unfoldable pub largest : ℕ
 largest = 2 ^ 62
 
 -- … said of a month at a level, as it is worked out: of each product, of the claim sum, and of each sum with the S − 1 that rounding up adds to it
-pub record MonthLimits (round : Rounding) (severity : List ℕ) (P : ℕ) (quiet claimed : Row) (s : ℕ) : Type 0 where
+pub record MonthLimits (round : Rounding) (income : ℕ) (severity : List ℕ) (P : ℕ) (quiet claimed : Row) (s : ℕ) : Type 0 where
   pub product : (x r : ℕ) → nth severity x * claimed r ≤ largest
-  pub claim-total : claim-sum severity claimed (s + gain) ≤ largest
-  pub left-total : P * (claim-sum severity claimed (s + gain) % S) + (S - 1) ≤ largest
+  pub claim-total : claim-sum severity claimed (s + income) ≤ largest
+  pub left-total : P * (claim-sum severity claimed (s + income) % S) + (S - 1) ≤ largest
   pub month-total :
-      split-parts round P (quiet (s + gain)) (claim-sum severity claimed (s + gain) / S) (claim-sum severity claimed (s + gain) % S) + (S - 1)
+      split-parts round P (quiet (s + income)) (claim-sum severity claimed (s + income) / S) (claim-sum severity claimed (s + income) % S) + (S - 1)
       ≤ largest
 
 -- … and of a month of the count row at a place
@@ -98,6 +97,6 @@ pub record CountLimits (P : ℕ) (row : Row) (k : ℕ) : Type 0 where
   pub month-total : P * one-before row k + (S - P) * row k + (S - 1) ≤ largest
 
 -- … and of the row before the month of a ruin, at a level
-pub record RuinLimits (severity : List ℕ) (tail P s : ℕ) : Type 0 where
-  pub weight : ruin-weight severity tail (s + gain) ≤ largest
-  pub month-total : P * ruin-weight severity tail (s + gain) + (S - 1) ≤ largest
+pub record RuinLimits (income : ℕ) (severity : List ℕ) (tail P s : ℕ) : Type 0 where
+  pub weight : ruin-weight severity tail (s + income) ≤ largest
+  pub month-total : P * ruin-weight severity tail (s + income) + (S - 1) ≤ largest

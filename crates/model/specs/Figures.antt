@@ -9,9 +9,9 @@ use Rattle.model.specs.Limits.{max-months, max-opening, max-sizes, max-c
 use Rattle.model.specs.Format.{byte-length}
 use Rattle.model.specs.Refusal.{HeadAccepted, outside, workspace-needed}
 
--- the largest head, and the question that asks the most of it
+-- the largest head, whose months and opening leave an income of 1, and the question that asks the most of it
 abbrev largest-head : Head
-largest-head = record { months = max-months; opening = max-opening; sizes = max-sizes }
+largest-head = record { months = max-months; opening = max-opening; sizes = max-sizes; income = 1 }
 
 abbrev largest-ask : Ask
 largest-ask = record { head = largest-head; question = Both max-claims }
@@ -23,8 +23,8 @@ longest-plan = byte-length largest-head
 pub record Figures : Type 0 where
   -- "The count row has 121 places."
   pub count-places : places ≡ 121
-  -- "The longest plan is now 1,712 bytes."
-  pub plan-bytes : longest-plan ≡ 1712
+  -- "the longest plan is then 1,713 bytes"
+  pub plan-bytes : longest-plan ≡ 1713
   pub plan-fits : (h : Head) → HeadAccepted h → byte-length h ≤ longest-plan
   -- "the largest desk is 64,200 bytes": each number has 32 bits
   pub workspace-bytes : 4 * workspace-needed largest-ask ≡ 64200

@@ -14,7 +14,7 @@ filled-sizes severity zero = []
 filled-sizes severity (suc n) =
     cond (ltb 0 (nth severity (suc n))) (suc n ∷ filled-sizes severity n) (filled-sizes severity n)
 
--- "The sum in that order, over the sizes that are not empty alone": of the range of document 01's claim sum, at the level s + 1 at which the claim comes
+-- "The sum in that order, over the sizes that are not empty alone": of the claim sum's range, at the level s + c at which the claim comes
 unfoldable pub filled-sum : List ℕ → Row → ℕ → ℕ
 filled-sum severity next level =
     total (map (λ x. nth severity x * next (level - x)) (filled-sizes severity (min (level - 1) (length severity))))

@@ -1,5 +1,6 @@
 -- Source document 000, Theorem 2.1: survival by the month t of the first claim and its size x. The theorem's numbers p_t, q_i and f(x) are
--- P_t / S, (S − P_t) / S and F_x / S, and its probabilities over n months are multiplied by S^(2n), so that every term is whole.
+-- P_t / S, (S − P_t) / S and F_x / S, and its probabilities over n months are multiplied by S^(2n), so that every term is whole. Document 02: it "is for
+-- c = 1 alone", as the levels u + t of the theorem say.
 use Prim.Native.Nat.{ℕ, zero, suc, _+_, _*_, _-_, _^_}
 use mathlib.Core.List.{List}
 use lib.ListN.{length, drop}

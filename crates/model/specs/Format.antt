@@ -15,7 +15,8 @@ unfoldable pub number : List ℕ → ℕ
 number [] = 0
 number (b ∷ bs) = b * 2 ^ length bs + number bs
 
--- "n in 7 bits, u in 8, m in 9, then the row at 31 bits a number": the widths, which stand here alone for the definitions
+-- "n in 7 bits, u in 8, m in 9, then the row at 31 bits a number", and by document 02 "the income c, 4 bits after the sizes": the widths, which stand here
+-- alone for the definitions
 abbrev pub months-width : ℕ
 months-width = 7
 
@@ -29,19 +30,30 @@ sizes-start = months-width + opening-width
 abbrev pub sizes-width : ℕ
 sizes-width = 9
 
+-- where the income begins
+abbrev pub income-start : ℕ
+income-start = sizes-start + sizes-width
+
+abbrev pub income-width : ℕ
+income-width = 4
+
 abbrev pub number-width : ℕ
 number-width = 31
 
 -- the bits of the head, and the bytes that they lie in
 unfoldable pub head-bits : ℕ
-head-bits = sizes-start + sizes-width
+head-bits = income-start + income-width
 
 abbrev pub head-bytes : ℕ
 head-bytes = (head-bits + 7) / 8
 
 unfoldable pub plan-bits : Head → List ℕ → List ℕ
 plan-bits h row =
-    bits months-width (h .months) ++ bits opening-width (h .opening) ++ bits sizes-width (h .sizes) ++ flatMap (bits number-width) row
+    bits months-width (h .months)
+    ++ bits opening-width (h .opening)
+    ++ bits sizes-width (h .sizes)
+    ++ bits income-width (h .income)
+    ++ flatMap (bits number-width) row
 
 -- "The length is exact": of the bits, and in bytes with the fill of the last one
 unfoldable pub bit-length : Head → ℕ
@@ -61,6 +73,7 @@ head-of bytes =
       months = number (take months-width (bits-of bytes));
       opening = number (take opening-width (drop months-width (bits-of bytes)));
       sizes = number (take sizes-width (drop sizes-start (bits-of bytes)));
+      income = number (take income-width (drop income-start (bits-of bytes)));
     }
 
 -- the first numbers that stand in fields of the given width

@@ -7,7 +7,6 @@ use lib.IntN.{ℤ, pos, negsuc, _+ℤ_, _-ℤ_}
 use Rattle.model.specs.Scale.{S}
 use Rattle.model.specs.Sums.{one-to, count}
 use Rattle.model.specs.Plan.{Plan, nth}
-use Rattle.model.specs.Levels.{gain}
 
 -- "A history gives each month no claim, one size, or over": `tail-claim` is the over claim.
 pub data Event : Type 0 where
@@ -43,17 +42,17 @@ pub data Surplus : Type 0 where
   known : ℤ → Surplus
   lost : Surplus
 
--- "In month t the fund gains 1 … U_t = U_{t-1} + 1 less the claim."
-unfoldable pub next-surplus : Surplus → Event → Surplus
-next-surplus (known z) no-claim = known (z +ℤ pos gain)
-next-surplus (known z) (claim x) = known (z +ℤ pos gain -ℤ pos x)
-next-surplus (known z) tail-claim = lost
-next-surplus lost e = lost
+-- Document 02: "U_t = U_{t-1} + c less the claim"
+unfoldable pub next-surplus : ℕ → Surplus → Event → Surplus
+next-surplus income (known z) no-claim = known (z +ℤ pos income)
+next-surplus income (known z) (claim x) = known (z +ℤ pos income -ℤ pos x)
+next-surplus income (known z) tail-claim = lost
+next-surplus income lost e = lost
 
 -- U_1 to U_n of a history, from U_0
-unfoldable pub surplus-path : Surplus → History → List Surplus
-surplus-path before [] = []
-surplus-path before (e ∷ h) = next-surplus before e ∷ surplus-path (next-surplus before e) h
+unfoldable pub surplus-path : ℕ → Surplus → History → List Surplus
+surplus-path income before [] = []
+surplus-path income before (e ∷ h) = next-surplus income before e ∷ surplus-path income (next-surplus income before e) h
 
 -- U_t ≥ L; "An over claim … ruins in its month", so the surplus after it reaches nothing
 unfoldable pub at-least : ℕ → Surplus → Bool

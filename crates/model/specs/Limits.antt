@@ -26,9 +26,13 @@ max-level = 320
 abbrev pub places : ℕ
 places = max-months + 1
 
--- the largest level of any plan, u + n
+-- "Some groups now pay 1 to 8 units a month."
+abbrev pub max-income : ℕ
+max-income = 8
+
+-- "It refuses … u + c × n above 320": the largest level of any plan
 abbrev pub max-span : ℕ
-max-span = max-opening + max-months
+max-span = 320
 
 -- room for the longest row of a plan
 abbrev pub row-room : ℕ

@@ -11,13 +11,13 @@ use Rattle.model.specs.declared.Question.the-variants.{Survive, Both, Hi
 use Rattle.model.specs.Scale.{S, quotient}
 use Rattle.model.specs.Sums.{sum, total}
 use Rattle.model.specs.Plan.{Plan, nth}
-use Rattle.model.specs.Levels.{gain}
 
 -- a value at each level
 abbrev pub Row : Type 0
 Row = ℕ → ℕ
 
--- "the sum over x from 1 to the lesser of s and m of F_x × V_t(s + 1 − x)", by the level s + 1 at which the claim comes
+-- Document 01's A before its division, the sum of F_x × V_t(s + 1 − x), by the level at which the claim comes. Document 02: "s + 1 becomes s + c, and the
+-- claim sum takes sizes up to the lesser of s + c − 1 and m".
 unfoldable pub claim-sum : List ℕ → Row → ℕ → ℕ
 claim-sum severity next level = sum (min (level - 1) (length severity)) (λ x. nth severity x * next (level - x))
 
@@ -25,13 +25,14 @@ claim-sum severity next level = sum (min (level - 1) (length severity)) (λ x. n
 abbrev pub Month : Type 0
 Month = ℕ → Row → Row → Row
 
--- "V_{t-1}(s) = ((S − P_t) × V_t(s + 1) + P_t × A) divided by S", A the claim sum divided by S: the same "with rounding left out", multiplied by S × S so that it stays whole
-unfoldable pub exact-month : List ℕ → Month
-exact-month severity P quiet claimed s = (S - P) * S * quiet (s + gain) + P * claim-sum severity claimed (s + gain)
+-- "V_{t-1}(s) = ((S − P_t) × V_t(s + 1) + P_t × A) divided by S", A the claim sum divided by S, with s + c for s + 1: the same "with rounding left out",
+-- multiplied by S × S so that it stays whole
+unfoldable pub exact-month : ℕ → List ℕ → Month
+exact-month income severity P quiet claimed s = (S - P) * S * quiet (s + income) + P * claim-sum severity claimed (s + income)
 
 -- Document 02: "the month's value shall be the exact quotient by S × S, rounded once down or up"
-unfoldable pub month : Rounding → List ℕ → Month
-month round severity P quiet claimed s = quotient round (exact-month severity P quiet claimed s) (S * S)
+unfoldable pub month : Rounding → ℕ → List ℕ → Month
+month round income severity P quiet claimed s = quotient round (exact-month income severity P quiet claimed s) (S * S)
 
 -- What a question chooses in the month rule besides its last row. The rows are told apart by the number of claims left to place, which only both k
 -- looks at.
@@ -114,13 +115,13 @@ opening-allowed (Low L) = any-level
 unfoldable pub value : Month → Plan → Question → ℕ
 value one-month p q = kept (opening-allowed q) (opening-row one-month p q) (p .opening)
 
--- Document 02: "the weight of all sizes above s, over included", which are those that ruin, by the level s + 1 at which the claim comes
+-- Document 02: the weight of the sizes that ruin, "over included", by the level at which the claim comes. "Ruin by a claim is now a size of s + c or more."
 unfoldable pub ruin-weight : List ℕ → ℕ → ℕ → ℕ
 ruin-weight severity tail level = total (drop (level - 1) severity) + tail
 
 -- "For month t the value before it at level s is P_t times the weight …, divided by S and rounded each way"
-unfoldable pub ruin-row : Rounding → List ℕ → ℕ → ℕ → Row
-ruin-row round severity tail P s = quotient round (P * ruin-weight severity tail (s + gain)) S
+unfoldable pub ruin-row : Rounding → ℕ → List ℕ → ℕ → ℕ → Row
+ruin-row round income severity tail P s = quotient round (P * ruin-weight severity tail (s + income)) S
 
 -- "the month rule carries it back to the opening": a row before month t through the months t − 1 to 1, which forbid no level
 unfoldable pub carried-back : Month → Plan → ℕ → Row → ℕ

@@ -5,9 +5,11 @@ use lib.ListN.{length, getD, take, drop}
 use Rattle.model.specs.declared.Head.{Head}
 
 -- "A plan has months n …, opening u …, sizes m …, a chance P_t for each month t = 1 to n, a weight F_x for each claim size x = 1 to m, and a weight
--- "over" for all sizes above m." The months are as many as the chances, the sizes as many as the weights F_x; `tail` is document 01's "over".
+-- "over" for all sizes above m." Document 02: "A plan gains the income c". The months are as many as the chances, the sizes as many as the weights F_x;
+-- `tail` is document 01's "over".
 pub record Plan : Type 0 where
   pub opening : ℕ
+  pub income : ℕ
   pub chances : List ℕ
   pub severity : List ℕ
   pub tail : ℕ
@@ -27,11 +29,12 @@ nth xs (suc i) = getD xs i 0
 abbrev pub row-length : Head → ℕ
 row-length h = h .months + h .sizes + 1
 
--- "In memory a plan is a head (n, u, m) and a row of n + m + 1 numbers of 32 bits: chances, weights, over."
+-- "In memory a plan is a head (n, u, m) and a row of n + m + 1 numbers of 32 bits: chances, weights, over." The head has the income too.
 unfoldable pub plan-of : Head → List ℕ → Plan
 plan-of h row =
     record {
       opening = h .opening;
+      income = h .income;
       chances = take (h .months) row;
       severity = take (h .sizes) (drop (h .months) row);
       tail = getD row (h .months + h .sizes) 0;
@@ -39,4 +42,4 @@ plan-of h row =
 
 -- the same head with another opening
 abbrev pub opened : Head → ℕ → Head
-opened h v = record { months = h .months; opening = v; sizes = h .sizes }
+opened h v = record { months = h .months; opening = v; sizes = h .sizes; income = h .income }

@@ -9,7 +9,7 @@ use Rattle.model.specs.declared.Head.{Head}
 use Rattle.model.specs.declared.Question.{Question}
 use Rattle.model.specs.declared.Question.the-variants.{Survive, Both, High, Low}
 use Rattle.model.specs.declared.Ask.{Ask}
-use Rattle.model.specs.Limits.{max-months, max-opening, max-sizes, max-claims, max-level}
+use Rattle.model.specs.Limits.{max-months, max-opening, max-sizes, max-income, max-span, max-claims, max-level}
 use Rattle.model.specs.Scale.{S}
 use Rattle.model.specs.Sums.{total, any}
 use Rattle.model.specs.Plan.{Plan, plan-of, row-length, horizon, sizes}
@@ -21,12 +21,14 @@ unfoldable pub first : List (ℕ × Bool) → ℕ
 first [] = 0
 first (c ∷ cs) = cond (c .1) (c .0) (first cs)
 
--- 2 horizon, 3 opening, 4 sizes
+-- 2 horizon, 3 opening, 4 sizes; document 02's 16 income, "c of 0 or above 8", and 17 span, "u + c × n above 320", "both after 4 in that order"
 unfoldable pub head-checks : Head → List (ℕ × Bool)
 head-checks h =
     (2, ltb max-months (h .months))
     ∷ (3, ltb max-opening (h .opening))
     ∷ (4, eqb (h .sizes) 0 || ltb max-sizes (h .sizes))
+    ∷ (16, eqb (h .income) 0 || ltb max-income (h .income))
+    ∷ (17, ltb max-span (largest-level (h .income) (h .opening) (h .months)))
     ∷ []
 
 -- A head is accepted if none of its checks fits.
@@ -37,9 +39,9 @@ HeadAccepted h = first (head-checks h) ≡ 0
 unfoldable pub length-check : Head → List ℕ → ℕ × Bool
 length-check h row = (5, not (eqb (length row) (row-length h)))
 
--- "over above 0 is accepted only if m + 1 ≥ u + n, also when n = 0"
+-- "over above 0 is accepted only if m + 1 ≥ u + n, also when n = 0", where u + c × n "replaces u + n"
 unfoldable pub tail-survivable : Plan → Bool
-tail-survivable p = ltb 0 (p .tail) && ltb (sizes p + 1) (largest-level (p .opening) (horizon p))
+tail-survivable p = ltb 0 (p .tail) && ltb (sizes p + 1) (largest-level (p .income) (p .opening) (horizon p))
 
 -- 7 chance, 8 weights, 9 tail
 unfoldable pub number-checks : Head → List ℕ → List (ℕ × Bool)
@@ -63,7 +65,7 @@ outside (Low L) = ltb max-level L
 unfoldable pub month-outside : Head → ℕ → Bool
 month-outside h t = eqb t 0 || ltb (h .months) t
 
--- "Desk needs: survive, high, low 2 × (u + n + 1) numbers of 32 bits; both k that times k + 1"
+-- "Desk needs: survive, high, low 2 × (u + n + 1) numbers of 32 bits; both k that times k + 1", with u + c × n for u + n
 unfoldable pub rows-needed : Question → ℕ
 rows-needed Survive = 1
 rows-needed (Both k) = k + 1
@@ -71,7 +73,7 @@ rows-needed (High L) = 1
 rows-needed (Low L) = 1
 
 unfoldable pub workspace-needed : Ask → ℕ
-workspace-needed a = 2 * row-levels (a .head .opening) (a .head .months) * rows-needed (a .question)
+workspace-needed a = 2 * row-levels (a .head .income) (a .head .opening) (a .head .months) * rows-needed (a .question)
 
 -- 11 desk, "lent room too short": the workspace of a question is document 01's desk
 abbrev pub room-check : ℕ → ℕ → ℕ × Bool
@@ -119,7 +121,7 @@ count-refusal h row = plan-refusal h row
 unfoldable pub write-refusal : Head → List ℕ → ℕ → ℕ
 write-refusal h row room = first (plan-checks h row ++ room-check (byte-length h) room ∷ [])
 
--- Reading: the bytes, and the length of the row lent; 1 stub, "fewer than 3 bytes", and 6 padding are of bytes alone
+-- Reading: the bytes, and the length of the row lent; 1 stub, by document 02 "fewer than 4 bytes", and 6 padding are of bytes alone
 unfoldable pub read-refusal : List ℕ → ℕ → ℕ
 read-refusal bytes room =
     first

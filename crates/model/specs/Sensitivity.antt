@@ -7,16 +7,18 @@ use Rattle.model.specs.Sums.{total}
 use Rattle.model.specs.Plan.{Plan, horizon}
 use Rattle.model.specs.Bounds.{live-months}
 
--- "two accepted plans that differ only in claim chances": the same months, opening, weights (so sizes too) and over
+-- "two accepted plans that differ only in claim chances": the same months, opening, income, weights (so sizes too) and over
 pub record OnlyChancesDiffer (p p′ : Plan) : Type 0 where
   pub months : horizon p ≡ horizon p′
   pub opening : p .opening ≡ p′ .opening
+  pub income : p .income ≡ p′ .income
   pub severity : p .severity ≡ p′ .severity
   pub tail : p .tail ≡ p′ .tail
 
 -- "accepted plans that differ only in the opening", which grows from the first to the second
 pub record OnlyOpeningGrows (p p′ : Plan) : Type 0 where
   pub opening : p .opening ≤ p′ .opening
+  pub income : p .income ≡ p′ .income
   pub chances : p .chances ≡ p′ .chances
   pub severity : p .severity ≡ p′ .severity
   pub tail : p .tail ≡ p′ .tail

@@ -7,20 +7,18 @@ pub const SCALE: u32 = 1 << 30;
 // S for products and sums, which take 64 bits.
 pub const WIDE_SCALE: u64 = SCALE as u64;
 
-// What a month adds to the fund.
-pub const GAIN: usize = 1;
-
 // Which way a quotient is rounded: down for a lower bound, up for an upper one.
 pub enum Rounding {
     Down,
     Up,
 }
 
-// A plan's head: months n, opening reserve u and claim sizes m.
+// A plan's head: months n, opening reserve u, claim sizes m, and the income c of every month.
 pub struct Head {
     pub months: usize,
     pub opening: usize,
     pub sizes: usize,
+    pub income: usize,
 }
 
 // One of the four questions; k is a number of claims and L a level.

@@ -12,8 +12,11 @@ pub const LEVEL: usize = 320;
 
 pub const PLACES: usize = MONTHS + 1;
 
+// The largest income of a month; the least is 1.
+pub const INCOME: usize = 8;
+
 // The largest level of any plan.
-pub const SPAN: usize = OPENING + MONTHS;
+pub const SPAN: usize = 320;
 
 // Room for the longest row of a plan.
 pub const ROW: usize = MONTHS + SIZES + 1;

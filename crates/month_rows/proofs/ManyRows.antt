@@ -80,7 +80,7 @@ parts-put xs ys a n hx hy =
 
 -- rows that were rewritten in place
 pub rows-in-again : (shape : Shape) (xs ys : List ℕ) → RowsIn shape xs → length ys ≡ length xs → Parts ys → RowsIn shape ys
-rows-in-again shape xs ys h same parts = record { some = h .some; size = same ∙ h .size; parts = parts }
+rows-in-again shape xs ys h same parts = record { some = h .some; income-some = h .income-some; size = same ∙ h .size; parts = parts }
 
 -- Rows forbidden one after the other, from the first: `done` of the rows passed, `rest` of the others.
 pub record Forbidding (old : List ℕ) (width first last : ℕ) (rows : List ℕ) (j : ℕ) : Type 0 where

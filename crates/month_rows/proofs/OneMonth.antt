@@ -12,36 +12,34 @@ use lib.ListN.{length, take, drop}
 use lib.Seq.{take-length, getD-drop}
 use Rattle.model.specs.declared.Rounding.{Rounding}
 use Rattle.model.specs.Sums.{total}
-use Rattle.model.specs.Levels.{gain}
 use Rattle.model.specs.MonthRule.{Row, exact-month, month, claimed-row}
-use Rattle.model.proofs.LevelLaws.{gain-some}
 use Rattle.model.proofs.Month.{claim-sum-none, claim-sum-zero}
 use Rattle.claims.specs.Values.{from-top, Parts}
 use Rattle.month_rows.specs.Rows.{at, Replaced, own-sizes, after-claim-by}
 use Rattle.month_rows.proofs.RowLaws.{claim-sum-agree, row-before}
 use Rattle.month_rows.proofs.ManyRows.{rows-at, row-before-row}
 
--- a month reads the level above by the gain of the quiet row, and the levels below that of the claimed row
+-- a month reads the level above by the income of the quiet row, and the levels below that of the claimed row
 pub month-agree :
-    (round : Rounding) (F : List ℕ) (P : ℕ) (X Y X′ Y′ : Row) (s : ℕ) →
-    X (s + gain) ≡ X′ (s + gain) → ((k : ℕ) → k < s + gain → Y k ≡ Y′ k) → month round F P X Y s ≡ month round F P X′ Y′ s
+    (round : Rounding) (income : ℕ) (F : List ℕ) (P : ℕ) (X Y X′ Y′ : Row) (s : ℕ) →
+    X (s + income) ≡ X′ (s + income) → ((k : ℕ) → k < s + income → Y k ≡ Y′ k) → month round income F P X Y s ≡ month round income F P X′ Y′ s
 unfolding month exact-month
-month-agree round F P X Y X′ Y′ s ex ey = rw (ex, claim-sum-agree F Y Y′ (s + gain) (λ k a b. ey k b))
+month-agree round income F P X Y X′ Y′ s ex ey = rw (ex, claim-sum-agree F Y Y′ (s + income) (λ k a b. ey k b))
 
 -- the row with no claims left: where claims are tallied, a claim adds nothing
 month-own :
-    (round : Rounding) (F : List ℕ) (P : ℕ) (X : Row) (rows : ℕ → Row) (tallied : Bool) (s : ℕ) →
-    month round (take (own-sizes tallied (length F)) F) P X (rows 0) s ≡ month round F P X (claimed-row rows (after-claim-by tallied 0)) s
+    (round : Rounding) (income : ℕ) (F : List ℕ) (P : ℕ) (X : Row) (rows : ℕ → Row) (tallied : Bool) (s : ℕ) →
+    month round income (take (own-sizes tallied (length F)) F) P X (rows 0) s ≡ month round income F P X (claimed-row rows (after-claim-by tallied 0)) s
 unfolding month exact-month own-sizes after-claim-by claimed-row
-month-own round F P X rows true s =
-    rw (claim-sum-none (rows 0) (s + gain), claim-sum-agree F (claimed-row rows none) (λ _. 0) (s + gain) nothing, claim-sum-zero F (s + gain))
+month-own round income F P X rows true s =
+    rw (claim-sum-none (rows 0) (s + income), claim-sum-agree F (claimed-row rows none) (λ _. 0) (s + income) nothing, claim-sum-zero F (s + income))
   where
-    nothing : (k : ℕ) → 0 < k → k < s + gain → claimed-row rows none k ≡ 0
+    nothing : (k : ℕ) → 0 < k → k < s + income → claimed-row rows none k ≡ 0
     nothing k a b = refl
-month-own round F P X rows false s =
-    rw (take-length F) (month-agree round F P X (rows 0) X (claimed-row rows (some 0)) s refl same)
+month-own round income F P X rows false s =
+    rw (take-length F) (month-agree round income F P X (rows 0) X (claimed-row rows (some 0)) s refl same)
   where
-    same : (k : ℕ) → k < s + gain → rows 0 k ≡ claimed-row rows (some 0) k
+    same : (k : ℕ) → k < s + income → rows 0 k ≡ claimed-row rows (some 0) k
     same k l = refl
 
 pub own-sizes-le : (tallied : Bool) (sizes : ℕ) → own-sizes tallied sizes ≤ sizes
@@ -56,8 +54,8 @@ total-take-le (suc n) [] = zero-le
 total-take-le (suc n) (f ∷ F) = omega (arith, total-take-le n F)
 
 -- the rows before a month by the claims left, from those after it
-abbrev pub rows-before : Rounding → List ℕ → ℕ → Bool → (ℕ → Row) → ℕ → Row
-rows-before round F P tallied rows k = month round F P (rows k) (claimed-row rows (after-claim-by tallied k))
+abbrev pub rows-before : Rounding → ℕ → List ℕ → ℕ → Bool → (ℕ → Row) → ℕ → Row
+rows-before round income F P tallied rows k = month round income F P (rows k) (claimed-row rows (after-claim-by tallied k))
 
 -- a row with claims left: a claim leads to the row with one fewer
 claimed-next : (rows : ℕ → Row) (tallied : Bool) (k : ℕ) → claimed-row rows (after-claim-by tallied (suc k)) ≡ rows k
@@ -127,9 +125,13 @@ going-back-row last width live lw new old rows rows′ j h n parts row =
 replaced-by : (from count : ℕ) (new new′ : Row) (xs ys : List ℕ) → ((i : ℕ) → new i ≡ new′ i) → Replaced from count new xs ys → Replaced from count new′ xs ys
 replaced-by from count new new′ xs ys e h = record { inside = λ i l. h .inside i l ∙ e i; earlier = h .earlier; later = h .later }
 
-module _ (last width : ℕ) (tallied : Bool) (top live : ℕ) (levels : live + gain ≡ top + 1) (fits : top < width) (old F : List ℕ) (P : ℕ) (round : Rounding) where
+module _ (last width : ℕ) (tallied : Bool) (income : ℕ) (some-income : 0 < income) (top live : ℕ) (levels : live + income ≡ top + 1) (fits : top < width) (old F : List ℕ) (P : ℕ) (round : Rounding) where
   abbrev new : ℕ → Row
-  new = rows-before round F P tallied (rows-left last width top old)
+  new = rows-before round income F P tallied (rows-left last width top old)
+
+  -- the income, from the places
+  below : top + 1 - live ≡ income
+  below = omega arith
 
   -- a row with claims left: a claim leads to the next row
   pub going-back-turn :
@@ -138,7 +140,7 @@ module _ (last width : ℕ) (tallied : Bool) (top live : ℕ) (levels : live + g
       Replaced (j * width) live (row-before round F P (j * width) (j * width + width) top live rows) rows rows′ →
       GoingBack last width live new old rows′ (j + 1)
   going-back-turn rows j l h rows′ n parts row =
-      going-back-row last width live (omega (arith, gain-some)) new old rows rows′ j h n parts (replaced-by (j * width) live _ _ rows rows′ same row)
+      going-back-row last width live (omega arith) new old rows rows′ j h n parts (replaced-by (j * width) live _ _ rows rows′ same row)
     where
       own : last - j ≡ suc (last - 1 - j)
       own = omega arith
@@ -151,8 +153,8 @@ module _ (last width : ℕ) (tallied : Bool) (top live : ℕ) (levels : live + g
 
       same : (p : ℕ) → row-before round F P (j * width) (j * width + width) top live rows p ≡ new (last - j) (live - 1 - p)
       same p =
-          rw (own, claimed-next (rows-left last width top old) tallied (last - 1 - j), this, next, row-same top (j * width) (j * width) rows old (omega arith) (h .rest))
-          (ap (λ (Y : Row). month round F P (from-top top (drop (j * width) old)) Y (live - 1 - p))
+          rw (below, own, claimed-next (rows-left last width top old) tallied (last - 1 - j), this, next, row-same top (j * width) (j * width) rows old (omega arith) (h .rest))
+          (ap (λ (Y : Row). month round income F P (from-top top (drop (j * width) old)) Y (live - 1 - p))
           (row-same top (j * width) (j * width + width) rows old (omega arith) (h .rest)))
 
   -- the row with no claims left, the last one
@@ -163,7 +165,7 @@ module _ (last width : ℕ) (tallied : Bool) (top live : ℕ) (levels : live + g
       Replaced (last * width) live (row-before round (take own F) P (last * width) (last * width) top live rows) rows rows′ →
       GoingBack last width live new old rows′ (last + 1)
   going-back-end rows j all h₀ own eo rows′ n parts row =
-      going-back-row last width live (omega (arith, gain-some)) new old rows rows′ last h n parts (replaced-by (last * width) live _ _ rows rows′ same row)
+      going-back-row last width live (omega arith) new old rows rows′ last h n parts (replaced-by (last * width) live _ _ rows rows′ same row)
     where
       h : GoingBack last width live new old rows last
       h = rw all at h₀
@@ -176,20 +178,20 @@ module _ (last width : ℕ) (tallied : Bool) (top live : ℕ) (levels : live + g
 
       same : (p : ℕ) → row-before round (take own F) P (last * width) (last * width) top live rows p ≡ new (last - last) (live - 1 - p)
       same p =
-          rw (none, eo, row-same top (last * width) (last * width) rows old (omega arith) (h .rest))
-          (rw (← own-row) (month-own round F P (rows-left last width top old 0) (rows-left last width top old) tallied (live - 1 - p)))
+          rw (below, none, eo, row-same top (last * width) (last * width) rows old (omega arith) (h .rest))
+          (rw (← own-row) (month-own round income F P (rows-left last width top old 0) (rows-left last width top old) tallied (live - 1 - p)))
 
   -- all rows, by the claims left and the level
   pub going-back-done :
       (rows : List ℕ) (j : ℕ) → last < j → GoingBack last width live new old rows j →
-      (k : ℕ) → k ≤ last → (s : ℕ) → s + gain ≤ top → rows-left last width (top - gain) rows k s ≡ new k s
+      (k : ℕ) → k ≤ last → (s : ℕ) → s + income ≤ top → rows-left last width (top - income) rows k s ≡ new k s
   going-back-done rows j all h k l s m =
       let claims : last - (last - k) ≡ k = omega arith in
-      let level : live - 1 - (top - gain - s) ≡ s = omega arith in
-      h .done (last - k) (omega arith) (top - gain - s) (omega arith) ∙ ap₂ new claims level
+      let level : live - 1 - (top - income - s) ≡ s = omega arith in
+      h .done (last - k) (omega arith) (top - income - s) (omega arith) ∙ ap₂ new claims level
 
   -- and the places beyond, by the claims left
   pub going-back-beyond :
       (rows : List ℕ) (j : ℕ) → last < j → GoingBack last width live new old rows j →
-      (k : ℕ) → k ≤ last → (i : ℕ) → top < i + gain → i < width → rows-at width rows (last - k) i ≡ rows-at width old (last - k) i
+      (k : ℕ) → k ≤ last → (i : ℕ) → top < i + income → i < width → rows-at width rows (last - k) i ≡ rows-at width old (last - k) i
   going-back-beyond rows j all h k l i m b = h .beyond (last - k) (omega arith) i (omega arith) b

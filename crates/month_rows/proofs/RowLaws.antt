@@ -10,10 +10,8 @@ use lib.Seq.{length-take-le, getD-take, getD-drop, getD-set-same, getD-set-other
 use Rattle.model.specs.declared.Head.{Head}
 use Rattle.model.specs.declared.Rounding.{Rounding}
 use Rattle.model.specs.Scale.{S, quotient}
-use Rattle.model.specs.Levels.{gain}
 use Rattle.model.specs.MonthRule.{Row, claim-sum, exact-month, month}
 use Rattle.model.specs.FilledSizes.{filled-sum}
-use Rattle.model.proofs.LevelLaws.{gain-some}
 use Rattle.model.proofs.Facts.{Facts}
 use Rattle.model.proofs.Month.{claim-sum-none, claim-sum-ground, claim-sum-cons}
 use Rattle.model.proofs.FilledLaws.{filled-sum-is}
@@ -109,12 +107,12 @@ rewriting-turn old from new rows i v h l e b =
     passed : (j : ℕ) → j < i → getD (set rows (from + i) v) (from + j) 0 ≡ new j
     passed j m = others (from + j) (λ z. omega (arith, z)) ∙ h .so-far .inside j m
 
--- a row of levels, and the places of a row one month back: after a claim the row at `claimed` is read, else the row at `quiet`
+-- the places of a row one month back, with the income top + 1 - live: after a claim the row at `claimed` is read, else the row at `quiet`
 abbrev pub row-before : Rounding → List ℕ → ℕ → ℕ → ℕ → ℕ → ℕ → List ℕ → Row
 row-before round F P quiet claimed top live old i =
-    month round F P (from-top top (drop quiet old)) (from-top top (drop claimed old)) (live - 1 - i)
+    month round (top + 1 - live) F P (from-top top (drop quiet old)) (from-top top (drop claimed old)) (live - 1 - i)
 
-module _ (old F : List ℕ) (quiet claimed top live P : ℕ) (round : Rounding) (order : quiet ≤ claimed) (levels : live + gain ≡ top + 1) where
+module _ (old F : List ℕ) (quiet claimed top live P : ℕ) (round : Rounding) (order : quiet ≤ claimed) (levels : live ≤ top) where
   -- what a turn's claim sum reads lies beyond its place, and is still old
   pub sum-beyond :
       (rows : List ℕ) (i : ℕ) → i < live → claimed + top ≤ length rows →
@@ -122,7 +120,7 @@ module _ (old F : List ℕ) (quiet claimed top live P : ℕ) (round : Rounding) 
       (n : ℕ) (xs : List ℕ) → xs ≡ take (claimed + top - (claimed + i + 1)) (drop (claimed + i + 1) rows) → n ≡ length xs →
       (sum : ℕ) → sum ≡ filled-sum F (from-top n xs) (n + 1) → sum ≡ claim-sum F (from-top top (drop claimed old)) (top - i)
   sum-beyond rows i l fits h n xs ex en sum es =
-      let inside : i < top = omega (arith, gain-some) in
+      let inside : i < top = omega arith in
       let count : length xs ≡ top - (i + 1) = ap length ex ∙ length-part rows (claimed + i + 1) (claimed + top) (omega arith) fits ∙ omega arith in
       let whole : n + 1 ≡ top - i = omega arith in
       es
@@ -144,6 +142,6 @@ module _ (old F : List ℕ) (quiet claimed top live P : ℕ) (round : Rounding) 
       (value : ℕ) → value ≡ quotient round ((S - P) * S * quiet-value + P * sum) (S * S) → value ≡ row-before round F P quiet claimed top live old i
   unfolding month exact-month
   value-before i quiet-value sum l e f value ev =
-      let level : live - 1 - i + gain ≡ top - i = omega arith in
-      let place : top - (top - i) ≡ i = omega (arith, gain-some) in
+      let level : live - 1 - i + (top + 1 - live) ≡ top - i = omega arith in
+      let place : top - (top - i) ≡ i = omega arith in
       ev ∙ rw (level, e, f, getD-drop quiet old (top - (top - i)) 0, place)

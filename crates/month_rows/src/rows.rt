@@ -3,24 +3,23 @@
 ghost use mathlib.Core.Path.{_≡_};
 ghost use Prim.Native.Nat.{ℕ, _+_, _-_, _<_, _≤_};
 ghost use lib.ListN.{length, drop, replicate};
-ghost use Rattle.model.specs.Levels.{gain};
 ghost use Rattle.model.specs.MonthRule.{month, kept, claimed-row};
 ghost use Rattle.claims.specs.Values.{from-top, Parts};
 ghost use Rattle.month_rows.specs.Rows.{at, MonthTerms, Replaced, between, own-sizes, after-claim-by};
 ghost use Rattle.month_rows.specs.Shapes.{row-with, values-in, RowsIn, TopIn, allowed-places};
 use claims::sizes::first_within;
 use claims::sum::claim_sum;
-use model::GAIN;
 use model::Rounding;
 use numbers::difference;
 use numbers::lesser;
 use rounding::month_value;
 
-// What a question asks of the rows: how many there are, the places of each, whether they are told apart by the claims left, and the levels that are
-// not forbidden, from `low` on and below `above`.
+// What a question on a plan asks of the rows: how many there are, the places of each, the income of a month, whether the rows are told apart by the
+// claims left, and the levels that are not forbidden, from `low` on and below `above`.
 pub struct Shape {
     pub rows: usize,
     pub width: usize,
+    pub income: usize,
     pub tallied: bool,
     pub low: usize,
     pub above: usize,
@@ -44,9 +43,9 @@ pub fn value_at(row: &[u32], top: usize, level: usize) -> u32
     row[top - level]
 }
 
-// The row at index `quiet` goes back one month: its first `live` places, from level live - 1 down to 0. After a claim the row at index `claimed` is
-// read, which lies no earlier; place 0 held the level `top`, and no claim leads to level 0, at place `top`. As the levels fall, the largest sizes leave the
-// range for good.
+// The row at index `quiet` goes back one month: its first `live` places, from level live - 1 down to 0. Place 0 held the level `top`, so that the income
+// is top + 1 - live. After a claim the row at index `claimed` is read, which lies no earlier, and no claim leads to level 0, at place `top`. As the levels
+// fall, the largest sizes leave the range for good.
 pub fn row_back(
     rows: &mut [u32],
     quiet: usize,
@@ -59,12 +58,12 @@ pub fn row_back(
     chance: u32,
     round: Rounding,
 )
-    requires { ⌜ (quiet ≤ claimed) × (live + gain ≡ top + 1) × (claimed + top ≤ length (now rows)) ⌝ }
+    requires { ⌜ (quiet ≤ claimed) × (live ≤ top) × (claimed + top ≤ length (now rows)) ⌝ }
     requires { ⌜ Parts (now rows) ⌝ }
     requires { ⌜ MonthTerms (now severity) (now sizes) dense chance ⌝ }
     ensures rewritten { λ _.
         ⌜ Replaced quiet live
-        (λ i. month round (now (severity .entry)) chance (from-top top (drop quiet (now (rows .entry)))) (from-top top (drop claimed (now (rows .entry)))) (live - 1 - i))
+        (λ i. month round (top + 1 - live) (now (severity .entry)) chance (from-top top (drop quiet (now (rows .entry)))) (from-top top (drop claimed (now (rows .entry)))) (live - 1 - i))
         (now (rows .entry)) (now (rows .exit)) ⌝ }
     ensures parts { λ _. ⌜ Parts (now (rows .exit)) ⌝ }
 {
@@ -126,7 +125,7 @@ fn own_sizes(tallied: bool, sizes: usize) -> usize
     if tallied { 0 } else { sizes }
 }
 
-// All rows through one month, from place 0 at the level `top` to place 0 one gain below. A claim leads to the next row, with one claim fewer left: so
+// All rows through one month, from place 0 at the level `top` to place 0 one income below. A claim leads to the next row, with one claim fewer left: so
 // from the first row on.
 pub fn all_rows_back(
     rows: &mut [u32],
@@ -142,18 +141,19 @@ pub fn all_rows_back(
     requires { ⌜ TopIn shape top ⌝ }
     requires { ⌜ MonthTerms (now severity) (now sizes) dense chance ⌝ }
     ensures rewritten { λ _.
-        ⌜ ((k : ℕ) → k < shape .rows → (s : ℕ) → s + gain ≤ top →
-        values-in shape (top - gain) (now (rows .exit)) k s
-        ≡ month round (now (severity .entry)) chance (values-in shape top (now (rows .entry)) k)
+        ⌜ ((k : ℕ) → k < shape .rows → (s : ℕ) → s + shape .income ≤ top →
+        values-in shape (top - shape .income) (now (rows .exit)) k s
+        ≡ month round (shape .income) (now (severity .entry)) chance (values-in shape top (now (rows .entry)) k)
         (claimed-row (values-in shape top (now (rows .entry))) (after-claim-by (shape .tallied) k)) s) ⌝ }
     ensures beyond { λ _.
-        ⌜ ((k : ℕ) → k < shape .rows → (i : ℕ) → top < i + gain → i < shape .width →
+        ⌜ ((k : ℕ) → k < shape .rows → (i : ℕ) → top < i + shape .income → i < shape .width →
         at (row-with shape (now (rows .exit)) k) i ≡ at (row-with shape (now (rows .entry)) k) i) ⌝ }
     ensures parts { λ _. ⌜ Parts (now (rows .exit)) ⌝ }
 {
     let tallied = shape.tallied;
     let width = shape.width;
-    let live = top + 1 - GAIN;
+    let income = shape.income;
+    let live = top + 1 - income;
     let last = shape.rows - 1;
     let mut j = 0;
     while j < last {

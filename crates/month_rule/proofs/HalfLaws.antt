@@ -20,11 +20,11 @@ use Rattle.month_rows.proofs.ManyRows.{parts-append, parts-put, put-before, put
 -- each half holds the rows of the shape
 pub lower-rows : (shape : Shape) (xs : List ℕ) → HalvesIn shape xs → RowsIn shape (take (rows-size shape) xs)
 lower-rows shape xs h =
-    record { some = h .some; size = length-take-le (rows-size shape) xs (omega (arith, h .size)); parts = parts-part xs 0 (rows-size shape) (h .parts) }
+    record { some = h .some; income-some = h .income-some; size = length-take-le (rows-size shape) xs (omega (arith, h .size)); parts = parts-part xs 0 (rows-size shape) (h .parts) }
 
 pub upper-rows : (shape : Shape) (xs : List ℕ) → HalvesIn shape xs → RowsIn shape (drop (rows-size shape) xs)
 upper-rows shape xs h =
-    record { some = h .some; size = omega (arith, h .size, length-drop (rows-size shape) xs); parts = parts-drop xs (rows-size shape) (h .parts) }
+    record { some = h .some; income-some = h .income-some; size = omega (arith, h .size, length-drop (rows-size shape) xs); parts = parts-drop xs (rows-size shape) (h .parts) }
 
 -- the list after its first half came back as `front` and its second as `back`
 module _ (xs front back : List ℕ) (half : ℕ) (whole : length xs ≡ 2 * half) (front-is : length front ≡ length (take half xs)) where

@@ -56,7 +56,7 @@ fn listed_halves_back(
     dense: usize,
 )
     requires { ⌜ HalvesIn shape (now halves) ⌝ }
-    requires { ⌜ largest-level opening (length (now chances)) < shape .width ⌝ }
+    requires { ⌜ largest-level (shape .income) opening (length (now chances)) < shape .width ⌝ }
     requires { ⌜ PlanTerms (now severity) (now chances) ⌝ }
     requires { ⌜ Listing (now severity) (now sizes) dense ⌝ }
     ensures lower { λ _.
@@ -96,7 +96,7 @@ pub fn halves_back(
     severity: &[u32],
 )
     requires { ⌜ HalvesIn shape (now halves) ⌝ }
-    requires { ⌜ largest-level opening (length (now chances)) < shape .width ⌝ }
+    requires { ⌜ largest-level (shape .income) opening (length (now chances)) < shape .width ⌝ }
     requires { ⌜ PlanTerms (now severity) (now chances) ⌝ }
     ensures lower { λ _.
         ⌜ TakenBack Down (now (severity .entry)) shape opening (now (chances .entry)) (take (rows-size shape) (now (halves .entry))) (take (rows-size shape) (now (halves .exit))) ⌝ }

@@ -2,14 +2,13 @@
 ghost use mathlib.Core.Path.{_≡_};
 ghost use Prim.Native.Nat.{ℕ, _+_, _-_, _<_, _≤_};
 ghost use lib.ListN.{length};
-ghost use Rattle.model.specs.Levels.{gain, largest-level};
+ghost use Rattle.model.specs.Levels.{largest-level};
 ghost use Rattle.model.specs.MonthRule.{kept, month, month-back};
 ghost use Rattle.claims.specs.Values.{Parts};
 ghost use Rattle.claims.specs.Listing.{Listing};
 ghost use Rattle.month_rows.specs.Rows.{at, MonthTerms};
 ghost use Rattle.month_rule.specs.Months.{PlanTerms, rule-by, TakenBack};
 ghost use Rattle.month_rows.specs.Shapes.{row-with, values-in, RowsIn, TopIn, allowed-places};
-use model::GAIN;
 use model::Rounding;
 use month_rows::rows::Shape;
 use month_rows::rows::all_rows_back;
@@ -30,11 +29,11 @@ pub fn month_back(
     requires { ⌜ TopIn shape top ⌝ }
     requires { ⌜ MonthTerms (now severity) (now sizes) dense chance ⌝ }
     ensures back { λ _.
-        ⌜ ((k : ℕ) → k < shape .rows → (s : ℕ) → s + gain ≤ top →
-        values-in shape (top - gain) (now (rows .exit)) k s
-        ≡ month-back (month round (now (severity .entry))) (rule-by shape) chance (values-in shape top (now (rows .entry))) k s) ⌝ }
+        ⌜ ((k : ℕ) → k < shape .rows → (s : ℕ) → s + shape .income ≤ top →
+        values-in shape (top - shape .income) (now (rows .exit)) k s
+        ≡ month-back (month round (shape .income) (now (severity .entry))) (rule-by shape) chance (values-in shape top (now (rows .entry))) k s) ⌝ }
     ensures beyond { λ _.
-        ⌜ ((k : ℕ) → k < shape .rows → (i : ℕ) → top < i + gain → i < shape .width →
+        ⌜ ((k : ℕ) → k < shape .rows → (i : ℕ) → top < i + shape .income → i < shape .width →
         at (row-with shape (now (rows .exit)) k) i ≡ kept (allowed-places shape top) (at (row-with shape (now (rows .entry)) k)) i) ⌝ }
     ensures parts { λ _. ⌜ Parts (now (rows .exit)) ⌝ }
 {
@@ -54,7 +53,7 @@ pub fn all_months_back(
     round: Rounding,
 )
     requires { ⌜ RowsIn shape (now rows) ⌝ }
-    requires { ⌜ largest-level opening (length (now chances)) < shape .width ⌝ }
+    requires { ⌜ largest-level (shape .income) opening (length (now chances)) < shape .width ⌝ }
     requires { ⌜ PlanTerms (now severity) (now chances) ⌝ }
     requires { ⌜ Listing (now severity) (now sizes) dense ⌝ }
     ensures values { λ _. ⌜ TakenBack round (now (severity .entry)) shape opening (now (chances .entry)) (now (rows .entry)) (now (rows .exit)) ⌝ }
@@ -63,7 +62,7 @@ pub fn all_months_back(
     if chances.len() < 1 {
         return;
     }
-    let after = opening + GAIN;
+    let after = opening + shape.income;
     all_months_back(
         rows,
         shape,

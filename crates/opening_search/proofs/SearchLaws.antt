@@ -17,14 +17,14 @@ use Rattle.opening_search.specs.Answers.{refused}
 use Rattle.opening_search.specs.Search.{search-answer}
 
 -- the answer, from the least opening: one above the largest where none reaches the target
-module _ (F : List ℕ) (opening : ℕ) (chances : List ℕ) (target v : ℕ) (found : v ≡ least (opening + 1) (λ s. leb target (survival-row Down F chances s))) where
-  pub none-found : opening < v → (r : LeastAnswer) → r ≡ refused 15 → r ≡ search-answer F opening chances target
+module _ (income : ℕ) (F : List ℕ) (opening : ℕ) (chances : List ℕ) (target v : ℕ) (found : v ≡ least (opening + 1) (λ s. leb target (survival-row Down income F chances s))) where
+  pub none-found : opening < v → (r : LeastAnswer) → r ≡ refused 15 → r ≡ search-answer income F opening chances target
   unfolding search-answer
   none-found l r e = rw (← found, lt-ltb opening v l) e
 
   pub one-found :
-      v ≤ opening → (low high : ℕ) → low ≡ survival-row Down F chances v → high ≡ survival-row Up F chances v →
-      _≡_ {A = LeastAnswer} (record { refusal = 0; opening = v; lower = low; upper = high }) (search-answer F opening chances target)
+      v ≤ opening → (low high : ℕ) → low ≡ survival-row Down income F chances v → high ≡ survival-row Up income F chances v →
+      _≡_ {A = LeastAnswer} (record { refusal = 0; opening = v; lower = low; upper = high }) (search-answer income F opening chances target)
   unfolding search-answer
   one-found l low high el eh = rw (← found, le-ltb opening v l, el, eh)
 

@@ -95,7 +95,7 @@ module _ (h : Head) (row : List ℕ) (target room : ℕ) where
 
   -- the least opening and its bounds, from V_0
   abbrev row-value : Rounding → ℕ → ℕ
-  row-value round = survival-row round (plan-of h row .severity) (plan-of h row .chances)
+  row-value round = survival-row round (h .income) (plan-of h row .severity) (plan-of h row .chances)
 
   abbrev row-least : ℕ
   row-least = least (h .opening + 1) (λ s. leb target (row-value Down s))
@@ -145,7 +145,7 @@ module _ (h : Head) (row : List ℕ) (target room : ℕ) where
     miss-fails v l m = lt-leb target (lower (plan-of (opened h v) row) Survive) (rw (asked-at v l) at (m .below))
 
     -- what the search gives is what the call answers
-    pub search-is : search-answer (plan-of h row .severity) (h .opening) (plan-of h row .chances) target ≡ least-answer h row target room
+    pub search-is : search-answer (h .income) (plan-of h row .severity) (h .opening) (plan-of h row .chances) target ≡ least-answer h row target room
     unfolding search-answer least-answer
     search-is = rw (number-is, unrefused, none-is, opening-is) (either-same (ltb (h .opening) row-least) row-least)
 
@@ -230,10 +230,10 @@ module _ (h : Head) (row : List ℕ) (target room : ℕ) where
 -- the search over the parts of the row as they are lent
 pub lent-is :
     (h : Head) (row : List ℕ) (target : ℕ) (r : LeastAnswer) →
-    r ≡ search-answer (take (h .months + h .sizes - h .months) (drop (h .months) row)) (h .opening) (take (h .months) row) target →
-    r ≡ search-answer (plan-of h row .severity) (h .opening) (plan-of h row .chances) target
+    r ≡ search-answer (h .income) (take (h .months + h .sizes - h .months) (drop (h .months) row)) (h .opening) (take (h .months) row) target →
+    r ≡ search-answer (h .income) (plan-of h row .severity) (h .opening) (plan-of h row .chances) target
 unfolding plan-of
-lent-is h row target r e = e ∙ ap (λ (F : List ℕ). search-answer F (h .opening) (take (h .months) row) target) (severity-lent h row)
+lent-is h row target r e = e ∙ ap (λ (F : List ℕ). search-answer (h .income) F (h .opening) (take (h .months) row) target) (severity-lent h row)
 
 -- The clauses of the call, of an answer and a workspace that are the definitions'.
 pub clauses :

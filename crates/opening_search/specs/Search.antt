@@ -10,9 +10,9 @@ use Rattle.opening_search.specs.declared.LeastAnswer.{LeastAnswer}
 use Rattle.opening_search.specs.Answers.{refused}
 
 -- the least opening's answer, from V_0 of either rounding: what the search gives
-unfoldable pub search-answer : List ℕ → ℕ → List ℕ → ℕ → LeastAnswer
-search-answer severity opening chances target =
-    cond (ltb opening v) (refused 15) (record { refusal = 0; opening = v; lower = survival-row Down severity chances v; upper = survival-row Up severity chances v })
+unfoldable pub search-answer : ℕ → List ℕ → ℕ → List ℕ → ℕ → LeastAnswer
+search-answer income severity opening chances target =
+    cond (ltb opening v) (refused 15) (record { refusal = 0; opening = v; lower = survival-row Down income severity chances v; upper = survival-row Up income severity chances v })
   where
     v : ℕ
-    v = least (opening + 1) (λ s. leb target (survival-row Down severity chances s))
+    v = least (opening + 1) (λ s. leb target (survival-row Down income severity chances s))

@@ -46,6 +46,7 @@ pub fn least(head: Head, row: &[u32], target: u32, workspace: &mut [u32]) -> Lea
     search(
         &mut workspace[..needed],
         head.opening,
+        head.income,
         &row[..months],
         &row[months..end],
         target,

@@ -2,7 +2,6 @@
 // for it in the second.
 use crate::LeastAnswer;
 use claims::sizes::list_sizes;
-use model::GAIN;
 use month_rows::rows::fill;
 use target_rows::rows::least_lower;
 use target_rows::rows::upper_at;
@@ -31,23 +30,25 @@ pub fn refused(refusal: u32) -> LeastAnswer
 fn listed_search(
     workspace: &mut [u32],
     opening: usize,
+    income: usize,
     chances: &[u32],
     severity: &[u32],
     sizes: &[usize],
     dense: usize,
     target: u32,
 ) -> LeastAnswer
-    requires { ⌜ length (now workspace) ≡ 2 * row-levels opening (length (now chances)) ⌝ }
+    requires { ⌜ (0 < income) × (length (now workspace) ≡ 2 * row-levels income opening (length (now chances))) ⌝ }
     requires { ⌜ PlanTerms (now severity) (now chances) × Listing (now severity) (now sizes) dense ⌝ }
     requires { ⌜ (0 < target) × (target ≤ S) ⌝ }
-    ensures answered { λ r. ⌜ r ≡ search-answer (now (severity .entry)) opening (now (chances .entry)) target ⌝ }
+    ensures answered { λ r. ⌜ r ≡ search-answer income (now (severity .entry)) opening (now (chances .entry)) target ⌝ }
     ensures cleared { λ _. ⌜ now (workspace .exit) ≡ replicate (length (now (workspace .entry))) 0 ⌝ }
 {
-    let half = opening + GAIN * chances.len() + 1;
+    let half = opening + income * chances.len() + 1;
     fill(workspace, 0);
     let found = least_lower(
         &mut workspace[..half],
         opening,
+        income,
         chances,
         severity,
         sizes,
@@ -61,6 +62,7 @@ fn listed_search(
     let upper = upper_at(
         &mut workspace[half..],
         least,
+        income,
         chances,
         severity,
         sizes,
@@ -78,14 +80,15 @@ fn listed_search(
 pub fn search(
     workspace: &mut [u32],
     opening: usize,
+    income: usize,
     chances: &[u32],
     severity: &[u32],
     target: u32,
 ) -> LeastAnswer
-    requires { ⌜ length (now workspace) ≡ 2 * row-levels opening (length (now chances)) ⌝ }
+    requires { ⌜ (0 < income) × (length (now workspace) ≡ 2 * row-levels income opening (length (now chances))) ⌝ }
     requires { ⌜ PlanTerms (now severity) (now chances) ⌝ }
     requires { ⌜ (0 < target) × (target ≤ S) ⌝ }
-    ensures answered { λ r. ⌜ r ≡ search-answer (now (severity .entry)) opening (now (chances .entry)) target ⌝ }
+    ensures answered { λ r. ⌜ r ≡ search-answer income (now (severity .entry)) opening (now (chances .entry)) target ⌝ }
     ensures cleared { λ _. ⌜ now (workspace .exit) ≡ replicate (length (now (workspace .entry))) 0 ⌝ }
 {
     let filled = list_sizes(severity);
@@ -94,6 +97,7 @@ pub fn search(
     listed_search(
         workspace,
         opening,
+        income,
         chances,
         severity,
         &sizes[..count],

@@ -20,7 +20,7 @@ use Rattle.plan.proofs.Rows.{total-last}
 -- the tail's test, of a head and a row
 abbrev pub survivable : Head → List ℕ → Bool
 survivable h row =
-    ltb 0 (getD row (h .months + h .sizes) 0) && ltb (h .sizes + 1) (largest-level (h .opening) (h .months))
+    ltb 0 (getD row (h .months + h .sizes) 0) && ltb (h .sizes + 1) (largest-level (h .income) (h .opening) (h .months))
 
 module _ (h : Head) (row : List ℕ) where
   -- the weights and the tail are the row after the chances

@@ -1,4 +1,4 @@
-// The checks of a plan in memory, in the order of document 01's table: one function for asking, counting, reading and writing.
+// The checks of a plan in memory, in the order of the table of documents 01 and 02: one function for asking, counting, reading and writing.
 pub mod lengths;
 
 use crate::lengths::largest_level;
@@ -13,13 +13,14 @@ ghost use lib.ListN.{length};
 ghost use Rattle.model.specs.Sums.{total, any};
 ghost use Rattle.model.specs.Refusal.{first, head-checks, plan-refusal};
 
-// 2 horizon, 3 opening, 4 sizes.
+// 2 horizon, 3 opening, 4 sizes, then 16 income and 17 span.
 pub fn head_refusal(head: Head) -> u32
     ensures { λ r. ⌜ r ≡ first (head-checks head) ⌝ }
 {
     let months = head.months;
     let opening = head.opening;
     let sizes = head.sizes;
+    let income = head.income;
     if limits::MONTHS < months {
         return 2;
     }
@@ -31,6 +32,15 @@ pub fn head_refusal(head: Head) -> u32
     }
     if limits::SIZES < sizes {
         return 4;
+    }
+    if income == 0 {
+        return 16;
+    }
+    if limits::INCOME < income {
+        return 16;
+    }
+    if limits::SPAN < largest_level(head) {
+        return 17;
     }
     0
 }

@@ -8,13 +8,15 @@ use lib.Dec.{lit<}
 use lib.ListN.{length, getD, replicate, List·getD-eq-default, length-append, length-replicate}
 use Rattle.model.specs.declared.Head.{Head}
 use Rattle.model.specs.Plan.{row-length}
-use Rattle.model.specs.Format.{months-width, opening-width, sizes-width, number-width, bits, head-bits, plan-bits, bits-of, bit-length, byte-length, head-of, fill-of, filled-bits}
+use Rattle.model.specs.Format.{months-width, opening-width, sizes-width, income-width, number-width, bits, head-bits, plan-bits, bits-of, bit-length, byte-length, head-of, fill-of, filled-bits}
 use Rattle.plan_bits.proofs.Fields.{Bits, bits-bits, bits-flat, bits-append, bits-drop, length-bits, length-flat, field-digit, after-field, flat-digit}
 
 -- the fields one after the other
 pub plan-fields :
     (h : Head) (row : List ℕ)
-    → plan-bits h row ≡ bits months-width (h .months) ++ (bits opening-width (h .opening) ++ (bits sizes-width (h .sizes) ++ flatMap (bits number-width) row))
+    → plan-bits h row
+    ≡ bits months-width (h .months)
+    ++ (bits opening-width (h .opening) ++ (bits sizes-width (h .sizes) ++ (bits income-width (h .income) ++ flatMap (bits number-width) row)))
 unfolding plan-bits
 plan-fields h row = simp append-assoc
 
@@ -42,20 +44,32 @@ module _ (h : Head) (row : List ℕ) (at : ℕ) where
           rw (plan-fields h row)
           (after-field months-width _ _ at after-months ∙ after-field opening-width _ _ (at - months-width) after-opening ∙ field-digit sizes-width _ _ (at - months-width - opening-width) inside)
 
-      pub number-bit :
-          sizes-width ≤ at - months-width - opening-width
-          → getD (plan-bits h row) at 0
-          ≡ getD row ((at - months-width - opening-width - sizes-width) / number-width) 0 / 2 ^ (number-width - 1 - (at - months-width - opening-width - sizes-width) % number-width) % 2
-      number-bit after-head =
-          rw (plan-fields h row)
-          (after-field months-width _ _ at after-months
-          ∙ after-field opening-width _ _ (at - months-width) after-opening
-          ∙ after-field sizes-width _ _ (at - months-width - opening-width) after-head
-          ∙ flat-digit number-width row (at - months-width - opening-width - sizes-width) (lit< tt))
+      module _ (after-sizes : sizes-width ≤ at - months-width - opening-width) where
+        abbrev past-sizes : ℕ
+        past-sizes = at - months-width - opening-width - sizes-width
 
-      pub no-bit : sizes-width ≤ at - months-width - opening-width → length row ≤ (at - months-width - opening-width - sizes-width) / number-width → getD (plan-bits h row) at 0 ≡ 0
-      no-bit after-head past =
-          number-bit after-head ∙ rw (List·getD-eq-default row 0 past, zero-div (2 ^ (number-width - 1 - (at - months-width - opening-width - sizes-width) % number-width)))
+        sizes-passed : getD (plan-bits h row) at 0 ≡ getD (bits income-width (h .income) ++ flatMap (bits number-width) row) past-sizes 0
+        sizes-passed =
+            rw (plan-fields h row)
+            (after-field months-width _ _ at after-months
+            ∙ after-field opening-width _ _ (at - months-width) after-opening
+            ∙ after-field sizes-width _ _ (at - months-width - opening-width) after-sizes)
+
+        pub income-bit : past-sizes < income-width → getD (plan-bits h row) at 0 ≡ h .income / 2 ^ (income-width - 1 - past-sizes) % 2
+        income-bit inside = sizes-passed ∙ field-digit income-width _ _ past-sizes inside
+
+        pub number-bit :
+            income-width ≤ past-sizes
+            → getD (plan-bits h row) at 0
+            ≡ getD row ((past-sizes - income-width) / number-width) 0 / 2 ^ (number-width - 1 - (past-sizes - income-width) % number-width) % 2
+        number-bit after-head =
+            sizes-passed
+            ∙ after-field income-width _ _ past-sizes after-head
+            ∙ flat-digit number-width row (past-sizes - income-width) (lit< tt)
+
+        pub no-bit : income-width ≤ past-sizes → length row ≤ (past-sizes - income-width) / number-width → getD (plan-bits h row) at 0 ≡ 0
+        no-bit after-head past =
+            number-bit after-head ∙ rw (List·getD-eq-default row 0 past, zero-div (2 ^ (number-width - 1 - (past-sizes - income-width) % number-width)))
 
 -- the bits of bytes
 pub length-bits-of : (bytes : List ℕ) → length (bits-of bytes) ≡ 8 * length bytes
@@ -84,7 +98,9 @@ getD-zeros (x ∷ xs) n (suc i) = getD-zeros xs n i
 pub bits-plan : (h : Head) (row : List ℕ) → Bits (plan-bits h row)
 unfolding plan-bits
 bits-plan h row =
-    bits-append (bits-append (bits-append (bits-bits months-width _) (bits-bits opening-width _)) (bits-bits sizes-width _)) (bits-flat number-width row (lit< tt))
+    bits-append
+    (bits-append (bits-append (bits-append (bits-bits months-width _) (bits-bits opening-width _)) (bits-bits sizes-width _)) (bits-bits income-width _))
+    (bits-flat number-width row (lit< tt))
 
 -- the fill is of zeros
 module _ (h : Head) (row : List ℕ) where

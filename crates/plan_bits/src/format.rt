@@ -11,7 +11,14 @@ pub const OPENING: usize = 8;
 
 pub const SIZES: usize = 9;
 
-pub const HEAD: usize = MONTHS + OPENING + SIZES;
+pub const INCOME: usize = 4;
+
+// The bits before the sizes, before the income, and of the whole head.
+pub const BEFORE_SIZES: usize = MONTHS + OPENING;
+
+pub const BEFORE_INCOME: usize = BEFORE_SIZES + SIZES;
+
+pub const HEAD: usize = BEFORE_INCOME + INCOME;
 
 // The bytes that a head needs: fewer are a stub.
 pub const HEAD_BYTES: usize = (HEAD + 7) / 8;

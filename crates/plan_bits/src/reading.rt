@@ -17,11 +17,13 @@ pub fn head_of(bytes: &[u8]) -> Head
 {
     let months = bits::field(bytes, 0, format::MONTHS) as usize;
     let opening = bits::field(bytes, format::MONTHS, format::OPENING) as usize;
-    let sizes = bits::field(bytes, format::MONTHS + format::OPENING, format::SIZES) as usize;
+    let sizes = bits::field(bytes, format::BEFORE_SIZES, format::SIZES) as usize;
+    let income = bits::field(bytes, format::BEFORE_INCOME, format::INCOME) as usize;
     Head {
         months,
         opening,
         sizes,
+        income,
     }
 }
 

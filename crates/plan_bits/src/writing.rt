@@ -23,7 +23,11 @@ fn bit(head: Head, row: &[u32], at: usize) -> u32
     if after_opening < format::SIZES {
         return bits::digit(head.sizes, format::SIZES - 1 - after_opening);
     }
-    let after_head = after_opening - format::SIZES;
+    let after_sizes = after_opening - format::SIZES;
+    if after_sizes < format::INCOME {
+        return bits::digit(head.income, format::INCOME - 1 - after_sizes);
+    }
+    let after_head = after_sizes - format::INCOME;
     let i = after_head / format::NUMBER;
     if i < row.len() {
         return bits::digit(

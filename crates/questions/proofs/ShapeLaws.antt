@@ -22,27 +22,34 @@ use Rattle.model.proofs.SumLaws.{below-or-not}
 use Rattle.month_rule.proofs.AllMonths.{Agree, values-agree}
 use Rattle.questions.specs.Needs.{shape-of}
 
-pub shape-rows : (q : Question) (width : ℕ) → shape-of q width .rows ≡ rows-needed q
+pub shape-rows : (q : Question) (width income : ℕ) → shape-of q width income .rows ≡ rows-needed q
 unfolding shape-of rows-needed
-shape-rows Survive width = refl
-shape-rows (Both k) width = refl
-shape-rows (High L) width = refl
-shape-rows (Low L) width = refl
+shape-rows Survive width income = refl
+shape-rows (Both k) width income = refl
+shape-rows (High L) width income = refl
+shape-rows (Low L) width income = refl
 
-pub shape-width : (q : Question) (width : ℕ) → shape-of q width .width ≡ width
+pub shape-width : (q : Question) (width income : ℕ) → shape-of q width income .width ≡ width
 unfolding shape-of
-shape-width Survive width = refl
-shape-width (Both k) width = refl
-shape-width (High L) width = refl
-shape-width (Low L) width = refl
+shape-width Survive width income = refl
+shape-width (Both k) width income = refl
+shape-width (High L) width income = refl
+shape-width (Low L) width income = refl
+
+pub shape-income : (q : Question) (width income : ℕ) → shape-of q width income .income ≡ income
+unfolding shape-of
+shape-income Survive width income = refl
+shape-income (Both k) width income = refl
+shape-income (High L) width income = refl
+shape-income (Low L) width income = refl
 
 -- the claims to place are those of the last row
-claims-last : (q : Question) (width : ℕ) → claims-of q ≡ shape-of q width .rows - 1
+claims-last : (q : Question) (width income : ℕ) → claims-of q ≡ shape-of q width income .rows - 1
 unfolding claims-of shape-of
-claims-last Survive width = refl
-claims-last (Both k) width = omega arith
-claims-last (High L) width = refl
-claims-last (Low L) width = refl
+claims-last Survive width income = refl
+claims-last (Both k) width income = omega arith
+claims-last (High L) width income = refl
+claims-last (Low L) width income = refl
 
 -- Where claims are not tallied there is one row, and every claim leads back to it.
 one-last : (j : ℕ) → j < 1 → (s : ℕ) → S ≡ all-placed j s
@@ -50,12 +57,12 @@ unfolding all-placed
 one-last zero l s = refl
 one-last (suc j) l s = absurd (omega arith)
 
-pub last-agree : (q : Question) (width j : ℕ) → j < shape-of q width .rows → (s : ℕ) → last-of q j s ≡ all-placed j s
+pub last-agree : (q : Question) (width income j : ℕ) → j < shape-of q width income .rows → (s : ℕ) → last-of q j s ≡ all-placed j s
 unfolding last-of shape-of
-last-agree Survive width j l s = one-last j l s
-last-agree (Both k) width j l s = refl
-last-agree (High L) width j l s = one-last j l s
-last-agree (Low L) width j l s = one-last j l s
+last-agree Survive width income j l s = one-last j l s
+last-agree (Both k) width income j l s = refl
+last-agree (High L) width income j l s = one-last j l s
+last-agree (Low L) width income j l s = one-last j l s
 
 one-claimed :
     (j : ℕ) → j < 1 → (X X′ : ℕ → Row) (k : ℕ) → ((i : ℕ) → i < 1 → X i k ≡ X′ i k) →
@@ -93,20 +100,20 @@ low-between L top s l = rw (lt-ltb s (top + 1) (omega arith)) (and-true (leb L s
     and-true false = refl
 
 -- the rule of a question and the rule of its shape
-shape-agree : (q : Question) (top : ℕ) → Agree (rule-of q) (rule-by (shape-of q (top + 1))) (shape-of q (top + 1) .rows) top
+shape-agree : (q : Question) (top income : ℕ) → Agree (rule-of q) (rule-by (shape-of q (top + 1) income)) (shape-of q (top + 1) income .rows) top
 unfolding rule-of rule-by shape-of
-shape-agree Survive top = record { claimed = one-claimed; allowed = all-between top }
-shape-agree (Both k) top = record { claimed = both-claimed (k + 1); allowed = all-between top }
-shape-agree (High L) top = record { claimed = one-claimed; allowed = λ s m. high-between L s }
-shape-agree (Low L) top = record { claimed = one-claimed; allowed = low-between L top }
+shape-agree Survive top income = record { claimed = one-claimed; allowed = all-between top }
+shape-agree (Both k) top income = record { claimed = both-claimed (k + 1); allowed = all-between top }
+shape-agree (High L) top income = record { claimed = one-claimed; allowed = λ s m. high-between L s }
+shape-agree (Low L) top income = record { claimed = one-claimed; allowed = low-between L top }
 
 -- The value of a question's rule, from its shape: over rows wide enough for the months, and last rows that agree where there is a row.
 pub shape-value :
-    (round : Rounding) (F Ps : List ℕ) (q : Question) (u top width : ℕ) → width ≡ top + 1 → largest-level u (length Ps) ≤ top → 0 < shape-of q width .rows →
-    (last last′ : ℕ → Row) → ((j : ℕ) → j < shape-of q width .rows → (s : ℕ) → last′ j s ≡ last j s) →
-    values (month round F) (rule-by (shape-of q width)) last Ps (shape-of q width .rows - 1) u ≡ values (month round F) (rule-of q) last′ Ps (claims-of q) u
-shape-value round F Ps q u top width e l p last last′ same =
-    rw (claims-last q width)
+    (round : Rounding) (income : ℕ) (F Ps : List ℕ) (q : Question) (u top width : ℕ) → width ≡ top + 1 → largest-level income u (length Ps) ≤ top → 0 < shape-of q width income .rows →
+    (last last′ : ℕ → Row) → ((j : ℕ) → j < shape-of q width income .rows → (s : ℕ) → last′ j s ≡ last j s) →
+    values (month round income F) (rule-by (shape-of q width income)) last Ps (shape-of q width income .rows - 1) u ≡ values (month round income F) (rule-of q) last′ Ps (claims-of q) u
+shape-value round income F Ps q u top width e l p last last′ same =
+    rw (claims-last q width income)
     (sym
-    (values-agree round F (rule-of q) (rule-by (shape-of q width)) (shape-of q width .rows) top (rw e (shape-agree q top)) last′ last (λ j l s m. same j l s)
-    Ps (shape-of q width .rows - 1) u (omega arith) l))
+    (values-agree round income F (rule-of q) (rule-by (shape-of q width income)) (shape-of q width income .rows) top (rw e (shape-agree q top income)) last′ last (λ j l s m. same j l s)
+    Ps (shape-of q width income .rows - 1) u (omega arith) l))

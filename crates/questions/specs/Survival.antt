@@ -6,5 +6,5 @@ use Rattle.model.specs.declared.Question.the-variants.{Survive}
 use Rattle.model.specs.MonthRule.{Row, month, values, rule-of, last-of, claims-of}
 
 -- V_0 of survive over these months, by the level at which they begin
-abbrev pub survival-row : Rounding → List ℕ → List ℕ → Row
-survival-row round severity chances = values (month round severity) (rule-of Survive) (last-of Survive) chances (claims-of Survive)
+abbrev pub survival-row : Rounding → ℕ → List ℕ → List ℕ → Row
+survival-row round income severity chances = values (month round income severity) (rule-of Survive) (last-of Survive) chances (claims-of Survive)

@@ -33,15 +33,16 @@ pub fn opening_allowed(question: Question, opening: usize) -> bool
     }
 }
 
-// The rows that a question needs, each of `width` places.
-pub fn shape_of(question: Question, width: usize) -> Shape
+// The rows that a question needs, each of `width` places, with this income.
+pub fn shape_of(question: Question, width: usize, income: usize) -> Shape
     requires { ⌜ outside question ≡ false ⌝ }
-    ensures { λ r. ⌜ r ≡ shape-of question width ⌝ }
+    ensures { λ r. ⌜ r ≡ shape-of question width income ⌝ }
 {
     match question {
         Question::Survive => Shape {
             rows: 1,
             width,
+            income,
             tallied: false,
             low: 0,
             above: width,
@@ -49,6 +50,7 @@ pub fn shape_of(question: Question, width: usize) -> Shape
         Question::Both(k) => Shape {
             rows: k + 1,
             width,
+            income,
             tallied: true,
             low: 0,
             above: width,
@@ -56,6 +58,7 @@ pub fn shape_of(question: Question, width: usize) -> Shape
         Question::High(level) => Shape {
             rows: 1,
             width,
+            income,
             tallied: false,
             low: 0,
             above: level + 1,
@@ -63,6 +66,7 @@ pub fn shape_of(question: Question, width: usize) -> Shape
         Question::Low(level) => Shape {
             rows: 1,
             width,
+            income,
             tallied: false,
             low: level,
             above: width,
@@ -79,6 +83,6 @@ pub fn workspace_needed(ask: Ask) -> usize
     let head = ask.head;
     let question = ask.question;
     let width = lengths::row_levels(head);
-    let shape = shape_of(question, width);
+    let shape = shape_of(question, width, head.income);
     2 * width * shape.rows
 }

@@ -11,7 +11,6 @@ use Rattle.model.specs.declared.Head.{Head}
 use Rattle.model.specs.declared.Question.{Question}
 use Rattle.model.specs.declared.Question.the-variants.{Survive, Both, High, Low}
 use Rattle.model.specs.Limits.{max-claims, max-level, places}
-use Rattle.model.specs.Levels.{gain}
 use Rattle.model.specs.Plan.{Plan}
 use Rattle.model.specs.Refusal.{outside}
 use Rattle.model.proofs.Facts.{HeadFacts}
@@ -39,18 +38,18 @@ range-starts (High L) h = omega arith
 range-starts (Low L) h = omega arith
 
 pub range-within : (q : Question) (h : Head) → HeadFacts h → (i : ℕ) → i < line-range q h .count → outside (numbered q (line-range q h .first + i)) ≡ false
-unfolding outside line-range gain
+unfolding outside line-range
 range-within Survive h known i l = refl
 range-within (Both k) h known i l = le-ltb max-claims (0 + i) (omega (arith, min-le-right (h .months) max-claims))
 range-within (High L) h known i l = le-ltb max-level (1 + i) (omega (arith, known .span-fits))
-range-within (Low L) h known i l = le-ltb max-level (1 + i) (omega (arith, known .opening-fits))
+range-within (Low L) h known i l = le-ltb max-level (1 + i) (omega (arith, known .opening-fits, known .income-fits))
 
 pub range-most : (q : Question) (h : Head) → HeadFacts h → line-range q h .count ≤ most-lines q
 unfolding line-range most-lines
 range-most Survive h known = omega arith
 range-most (Both k) h known = omega (arith, min-le-right (h .months) max-claims)
 range-most (High L) h known = omega (arith, known .span-fits)
-range-most (Low L) h known = omega (arith, known .opening-fits)
+range-most (Low L) h known = omega (arith, known .opening-fits, known .income-fits)
 
 -- so a question's lines fit where there is room for the most
 pub range-fits :

@@ -7,8 +7,8 @@ use lib.ListN.{length, getD}
 use Rattle.model.specs.declared.Head.{Head}
 use Rattle.model.specs.declared.Question.{Question}
 use Rattle.model.specs.declared.Question.the-variants.{Survive, Both, High, Low}
-use Rattle.model.specs.Limits.{max-opening, max-claims, max-span}
-use Rattle.model.specs.Levels.{gain, largest-level}
+use Rattle.model.specs.Limits.{max-opening, max-income, max-claims, max-span}
+use Rattle.model.specs.Levels.{largest-level}
 use Rattle.model.specs.Plan.{Plan}
 use Rattle.model.specs.Bounds.{count-lower, count-upper}
 use Rattle.model.specs.Refusal.{outside}
@@ -46,12 +46,13 @@ claims-line-of p k = claims-line k (count-lower p k) (count-upper p k)
 unfoldable pub claims-lines : Plan → ℕ → List ℕ
 claims-lines p n = joined (n + 1) (claims-line-of p)
 
--- "both 0 to the lesser of n and 24, high 1 to u + n, low 1 to u + 1"; survive has one line, with no number
+-- "both 0 to the lesser of n and 24, high 1 to u + n, low 1 to u + 1", where u + c × n replaces u + n and "The low lines run to u + c"; survive has one line,
+-- with no number
 unfoldable pub line-range : Question → Head → LineRange
 line-range Survive h = record { first = 0; count = 1 }
 line-range (Both k) h = record { first = 0; count = min (h .months) max-claims + 1 }
-line-range (High L) h = record { first = 1; count = largest-level (h .opening) (h .months) }
-line-range (Low L) h = record { first = 1; count = h .opening + gain }
+line-range (High L) h = record { first = 1; count = largest-level (h .income) (h .opening) (h .months) }
+line-range (Low L) h = record { first = 1; count = h .opening + h .income }
 
 -- all lines of a question
 abbrev pub group-lines : Plan → Head → Question → List ℕ
@@ -68,7 +69,7 @@ unfoldable pub most-lines : Question → ℕ
 most-lines Survive = 1
 most-lines (Both k) = max-claims + 1
 most-lines (High L) = max-span
-most-lines (Low L) = max-opening + gain
+most-lines (Low L) = max-opening + max-income
 
 -- what so many lines of a question need, its number rising from the first, and all of its lines
 abbrev pub lines-need : Head → Question → ℕ → ℕ → ℕ

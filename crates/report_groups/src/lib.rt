@@ -41,7 +41,7 @@ fn line_range(question: Question, head: Head) -> LineRange
         },
         Question::Low(_) => LineRange {
             first: 1,
-            count: head.opening + model::GAIN,
+            count: head.opening + head.income,
         },
     }
 }

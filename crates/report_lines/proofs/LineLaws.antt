@@ -34,7 +34,8 @@ head-ends h e =
       simp length-append at (e .ends),
       entry-at-most (ascii "months") (h .months ∷ []),
       entry-at-most (ascii " opening") (h .opening ∷ []),
-      line-at-most (ascii " sizes") (h .sizes ∷ []),
+      entry-at-most (ascii " sizes") (h .sizes ∷ []),
+      line-at-most (ascii " income") (h .income ∷ []),
     )
 
 -- What counting answers on an accepted plan

@@ -26,12 +26,13 @@ number-of (Both k) = k ∷ []
 number-of (High L) = L ∷ []
 number-of (Low L) = L ∷ []
 
--- "the head line gives n, u and m, each after its word"
+-- "the head line gives n, u and m, each after its word", and by document 02 "ends with ` income c`"
 unfoldable pub head-line : Head → List ℕ
 head-line h =
     entry (ascii "months") (h .months ∷ [])
     ++ entry (ascii " opening") (h .opening ∷ [])
-    ++ line (ascii " sizes") (h .sizes ∷ [])
+    ++ entry (ascii " sizes") (h .sizes ∷ [])
+    ++ line (ascii " income") (h .income ∷ [])
 
 -- "Every later line is a word, its number where it has one, lower, upper"
 abbrev pub bounds-line : Question → ℕ → ℕ → List ℕ
@@ -69,7 +70,7 @@ pub record CountsOf (p : Plan) (lowers uppers : List ℕ) : Type 0 where
 
 -- room for a head line, for what a line has after its word, which is three numbers of at most 20 digits, spaces and the newline, and for any line
 abbrev pub head-room : ℕ
-head-room = 84
+head-room = 112
 
 abbrev pub number-room : ℕ
 number-room = 64

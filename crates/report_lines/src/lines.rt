@@ -21,9 +21,11 @@ pub fn put_head(text: &mut [u8], at: usize, head: Head) -> usize
     let months = [head.months as u64];
     let opening = [head.opening as u64];
     let sizes = [head.sizes as u64];
+    let income = [head.income as u64];
     let end = put_entry(text, at, b"months", &months);
     let end = put_entry(text, end, b" opening", &opening);
-    put_line(text, end, b" sizes", &sizes)
+    let end = put_entry(text, end, b" sizes", &sizes);
+    put_line(text, end, b" income", &income)
 }
 
 // A question's line, from its bounds.

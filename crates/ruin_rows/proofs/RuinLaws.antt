@@ -10,7 +10,6 @@ use lib.Seq.{drop-cons, take-at, drop-at}
 use Rattle.model.specs.declared.Rounding.{Rounding}
 use Rattle.model.specs.Scale.{S, quotient}
 use Rattle.model.specs.Sums.{total}
-use Rattle.model.specs.Levels.{gain}
 use Rattle.model.specs.MonthRule.{Row, ruin-weight, ruin-row}
 use Rattle.model.proofs.SumLaws.{total-drop-le}
 use Rattle.model.proofs.FirstRuin.{ruin-weight-fits, ruin-row-fits}
@@ -40,22 +39,22 @@ weighing-end F tail level weight x l h =
     omega arith
 
 -- the row's values by their places, from the level `top` at place 0
-abbrev pub ruin-places : Rounding → List ℕ → ℕ → ℕ → ℕ → Row
-ruin-places round F tail chance top i = ruin-row round F tail chance (top - i)
+abbrev pub ruin-places : Rounding → ℕ → List ℕ → ℕ → ℕ → ℕ → Row
+ruin-places round income F tail chance top i = ruin-row round income F tail chance (top - i)
 
 -- one value: nothing passes S × S, and the quotient is that of the row
 pub product-fits : (F : List ℕ) (tail chance level weight : ℕ) → RuinTerms F tail chance → weight ≡ ruin-weight F tail level → chance * weight ≤ S * S
 product-fits F tail chance level weight terms e = mul-le-mul (terms .chance-fits) (rw e (ruin-weight-fits F tail (terms .weights-fit) level))
 
 pub ruin-value :
-    (round : Rounding) (F : List ℕ) (tail chance top i weight value : ℕ) → weight ≡ ruin-weight F tail (top - i + gain) → value ≡ quotient round (chance * weight) S →
-    value ≡ ruin-places round F tail chance top i
+    (round : Rounding) (income : ℕ) (F : List ℕ) (tail chance top i weight value : ℕ) → weight ≡ ruin-weight F tail (top - i + income) → value ≡ quotient round (chance * weight) S →
+    value ≡ ruin-places round income F tail chance top i
 unfolding ruin-row
-ruin-value round F tail chance top i weight value e v = v ∙ ap (λ (w : ℕ). quotient round (chance * w) S) e
+ruin-value round income F tail chance top i weight value e v = v ∙ ap (λ (w : ℕ). quotient round (chance * w) S) e
 
 pub value-fits :
-    (round : Rounding) (F : List ℕ) (tail chance top i value : ℕ) → RuinTerms F tail chance → value ≡ ruin-places round F tail chance top i → value ≤ S
-value-fits round F tail chance top i value terms v = rw v (ruin-row-fits F tail (terms .weights-fit) round chance (terms .chance-fits) (top - i))
+    (round : Rounding) (income : ℕ) (F : List ℕ) (tail chance top i value : ℕ) → RuinTerms F tail chance → value ≡ ruin-places round income F tail chance top i → value ≤ S
+value-fits round income F tail chance top i value terms v = rw v (ruin-row-fits income F tail (terms .weights-fit) round chance (terms .chance-fits) (top - i))
 
 -- each half of a workspace that is all 0
 module _ (xs : List ℕ) (n half : ℕ) (zeros : xs ≡ replicate n 0) (whole : n ≡ 2 * half) where

@@ -1,20 +1,21 @@
 -- The checks of a sheet, one after the other, and what is known of a sheet that none of them turns away.
-use Prim.Native.Nat.{ℕ, zero, suc, _+_, _<_, _≤_}
+use Prim.Native.Nat.{ℕ, zero, suc, _+_, _*_, _<_, _≤_}
 use mathlib.Core.Path.{_≡_, refl, sym, ap, _∙_}
 use mathlib.Core.Bool.{Bool, true, false, not, _&&_, _||_, cond}
 use mathlib.Core.List.{List, [], _∷_}
 use native.Mathlib.Omega.{arith}
-use borrow.Author.Tests.{lt-ltb, le-ltb, ltb-false, eqb-true, eqb-false, eq-eqb, ne-eqb, not-false}
+use borrow.Author.Tests.{lt-ltb, le-ltb, ltb-false, eqb-true, eq-eqb, ne-eqb, not-false}
 use lib.Dec.{ltb, eqb, lit<}
 use lib.Ieee.{lt, ne}
 use lib.Ieee.Scale.{finite}
 use lib.ListN.{length}
+use Rattle.model.specs.Limits.{max-months, max-opening, max-sizes, max-span}
 use Rattle.model.specs.Scale.{S}
 use Rattle.model.specs.Sums.{one-to, total, any, all}
 use Rattle.model.specs.Plan.{plan-of}
 use Rattle.model.specs.Levels.{largest-level}
 use Rattle.model.specs.Refusal.{first, head-checks, tail-survivable, HeadAccepted, room-check}
-use Rattle.model.proofs.Facts.{numbered, neither, first-append, none-fits, none-fits-append, head-numbered, head-facts, horizon-is, sizes-is}
+use Rattle.model.proofs.Facts.{numbered, lacks, neither, first-append, first-lacks, none-fits, none-fits-append, head-numbered, head-facts, horizon-is, sizes-is}
 use Rattle.doubles.specs.Doubles.{nought, one, within}
 use Rattle.doubles.proofs.RangeLaws.{within-alpha}
 use Rattle.sheet_values.specs.declared.RuleSheet.{RuleSheet}
@@ -39,7 +40,7 @@ passed-on n later passed = rw (eq-eqb n 0 passed)
 module _ (s : RuleSheet) where
   pub tail-is :
       tail-survivable (plan-of (sheet-head s) (sheet-row s))
-      ≡ (ltb 0 (tail (s .alpha) (s .sizes)) && ltb (s .sizes + 1) (largest-level (s .opening) (s .months)))
+      ≡ (ltb 0 (tail (s .alpha) (s .sizes)) && ltb (s .sizes + 1) (largest-level 1 (s .opening) (s .months)))
   unfolding tail-survivable plan-of sheet-head
   tail-is = rw (horizon-is (sheet-head s) (sheet-row s) (row-is s), sizes-is (sheet-head s) (sheet-row s) (row-is s), row-tail s)
 
@@ -48,7 +49,7 @@ module _ (s : RuleSheet) where
 
   weights-first :
       first (weight-checks s)
-      ≡ cond (ltb S weighed) 8 (cond (ltb 0 (tail (s .alpha) (s .sizes)) && ltb (s .sizes + 1) (largest-level (s .opening) (s .months))) 9 0)
+      ≡ cond (ltb S weighed) 8 (cond (ltb 0 (tail (s .alpha) (s .sizes)) && ltb (s .sizes + 1) (largest-level 1 (s .opening) (s .months))) 9 0)
   unfolding first weight-checks
   weights-first = rw tail-is
 
@@ -58,7 +59,7 @@ module _ (s : RuleSheet) where
   -- 8 is given for nothing else
   pub weights-within : weighed ≤ S → first (weight-checks s) ≡ 8 → ⊥
   weights-within fit eight =
-      other (ltb 0 (tail (s .alpha) (s .sizes)) && ltb (s .sizes + 1) (largest-level (s .opening) (s .months)))
+      other (ltb 0 (tail (s .alpha) (s .sizes)) && ltb (s .sizes + 1) (largest-level 1 (s .opening) (s .months)))
       (sym (weights-first ∙ rw (le-ltb _ _ fit)) ∙ eight)
     where
       other : (b : Bool) → _≡_ {A = ℕ} (cond b 9 0) 8 → ⊥
@@ -73,29 +74,16 @@ module _ (s : RuleSheet) where
 
   -- the tail is what the weights leave
   module _ (less : weighed < S) where
-    tail-first : first (weight-checks s) ≡ cond (ltb (s .sizes + 1) (largest-level (s .opening) (s .months))) 9 0
+    tail-first : first (weight-checks s) ≡ cond (ltb (s .sizes + 1) (largest-level 1 (s .opening) (s .months))) 9 0
     tail-first =
         weights-first
         ∙ rw (le-ltb S weighed (omega arith), lt-ltb 0 (tail (s .alpha) (s .sizes)) (omega (arith, tail-left (s .alpha) (s .sizes))))
 
-    pub tail-survives : s .sizes + 1 < largest-level (s .opening) (s .months) → first (weight-checks s) ≡ 9
+    pub tail-survives : s .sizes + 1 < largest-level 1 (s .opening) (s .months) → first (weight-checks s) ≡ 9
     tail-survives above = tail-first ∙ rw (lt-ltb _ _ above)
 
-    pub tail-ruins : largest-level (s .opening) (s .months) ≤ s .sizes + 1 → first (weight-checks s) ≡ 0
+    pub tail-ruins : largest-level 1 (s .opening) (s .months) ≤ s .sizes + 1 → first (weight-checks s) ≡ 0
     tail-ruins below = tail-first ∙ rw (le-ltb _ _ below)
-
--- ---- a number that no check of a list has
-
-not-among : (n : ℕ) (cs : List (ℕ × Bool)) → 0 < n → any (λ c. eqb (c .0) n) cs ≡ false → first cs ≡ n → ⊥
-unfolding any first
-not-among n [] some none is = omega (arith, is)
-not-among n (c ∷ cs) some none is =
-    let apart = neither (eqb (c .0) n) _ none in
-    go (c .1) (eqb-false _ _ (apart .0)) (not-among n cs some (apart .1)) is
-  where
-    go : (fits : Bool) → (c .0 ≡ n → ⊥) → (first cs ≡ n → ⊥) → cond fits (c .0) (first cs) ≡ n → ⊥
-    go true here later e = here e
-    go false here later e = later e
 
 -- the number comes of the first list or, where that refuses nothing, of what follows it
 pub of-either : (a b n : ℕ) → (a ≡ n → ⊥) → or-then a b ≡ n → (a ≡ 0) × (b ≡ n)
@@ -252,9 +240,49 @@ module _ (bytes : List ℕ) where
     pub pass : first (weight-checks s) ≡ 8
 
   pub eight : first (sheet-checks bytes) ≡ 8 → WeightsPass
-  unfolding any kind-checks head-checks rule-checks
+  unfolding all kind-checks head-checks rule-checks
   eight e =
-      let after-kind = of-either _ _ 8 (not-among 8 (kind-checks bytes) (lit< tt) refl) (sym sheet-first ∙ e) in
-      let after-head = of-either _ _ 8 (not-among 8 (head-checks (sheet-head s)) (lit< tt) refl) (after-kind .1) in
-      let after-rule = of-either _ _ 8 (not-among 8 (rule-checks bytes) (lit< tt) refl) (after-head .1) in
+      let after-kind = of-either _ _ 8 (first-lacks 8 (lit< tt) (kind-checks bytes) refl) (sym sheet-first ∙ e) in
+      let after-head = of-either _ _ 8 (first-lacks 8 (lit< tt) (head-checks (sheet-head s)) refl) (after-kind .1) in
+      let after-rule = of-either _ _ 8 (first-lacks 8 (lit< tt) (rule-checks bytes) refl) (after-head .1) in
       record { head-ok = after-head .0; rules = rules-hold (after-rule .0); pass = after-rule .1 }
+
+  -- ---- 16 and 17 are never given: a sheet's plan has an income of 1, with which the limits of the months and of the opening are that of the span
+
+  head-early : (n : ℕ) → 4 < n → first (head-checks (sheet-head s)) ≡ n → ⊥
+  unfolding first head-checks sheet-head largest-level
+  head-early n above =
+      go (ltb max-months (s .months)) (ltb max-opening (s .opening)) (eqb (s .sizes) 0 || ltb max-sizes (s .sizes)) (λ few. ltb-false _ _ few) (λ small. ltb-false _ _ small)
+    where
+      go :
+          (long large sized : Bool) → (long ≡ false → s .months ≤ max-months) → (large ≡ false → s .opening ≤ max-opening) →
+          cond long 2 (cond large 3 (cond sized 4 (cond (ltb max-span (s .opening + 1 * s .months)) 17 0))) ≡ n → ⊥
+      go true large sized few small e = omega (arith, e)
+      go false true sized few small e = omega (arith, e)
+      go false false true few small e = omega (arith, e)
+      go false false false few small e = omega (arith, rw (le-ltb max-span (s .opening + 1 * s .months) (omega (arith, few refl, small refl))) at e)
+
+  never-given :
+      (n needed room : ℕ) → 4 < n → lacks n (kind-checks bytes) ≡ true → lacks n (rule-checks bytes) ≡ true → lacks n (weight-checks s) ≡ true →
+      lacks n (room-check needed room ∷ []) ≡ true → sheet-refusal bytes needed room ≡ n → ⊥
+  unfolding first
+  never-given n needed room above kinds rules weights short e =
+      first-lacks n some (room-check needed room ∷ []) short (of-either _ _ n of-sheet (sym (refusal-is needed room) ∙ e) .1)
+    where
+      some : 0 < n
+      some = omega arith
+
+      of-sheet : first (sheet-checks bytes) ≡ n → ⊥
+      of-sheet e =
+          let after-kind = of-either _ _ n (first-lacks n some (kind-checks bytes) kinds) (sym sheet-first ∙ e) in
+          let after-head = of-either _ _ n (head-early n above) (after-kind .1) in
+          let after-rule = of-either _ _ n (first-lacks n some (rule-checks bytes) rules) (after-head .1) in
+          first-lacks n some (weight-checks s) weights (after-rule .1)
+
+  pub never-16 : (needed room : ℕ) → sheet-refusal bytes needed room ≡ 16 → ⊥
+  unfolding all kind-checks rule-checks weight-checks
+  never-16 needed room = never-given 16 needed room (lit< tt) refl refl refl refl
+
+  pub never-17 : (needed room : ℕ) → sheet-refusal bytes needed room ≡ 17 → ⊥
+  unfolding all kind-checks rule-checks weight-checks
+  never-17 needed room = never-given 17 needed room (lit< tt) refl refl refl refl

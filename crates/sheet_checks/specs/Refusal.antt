@@ -42,7 +42,7 @@ weight-checks s =
     ∷ (9, tail-survivable (plan-of (sheet-head s) (sheet-row s)))
     ∷ []
 
--- 5, 12, "then 2, 3 and 4; then" 13, 8, 9
+-- 5, 12, "then 2, 3 and 4; then" 13, 8, 9. The head's checks hold 16 and 17 too, which an income of 1 never gives.
 unfoldable pub sheet-checks : List ℕ → List (ℕ × Bool)
 sheet-checks bytes =
     kind-checks bytes ++ (head-checks (sheet-head (sheet-of bytes)) ++ (rule-checks bytes ++ weight-checks (sheet-of bytes)))

@@ -9,7 +9,7 @@ use Rattle.numbers.specs.Bytes.{big-endian}
 use Rattle.model.specs.declared.Head.{Head}
 use Rattle.model.specs.Scale.{S}
 use Rattle.model.specs.Sums.{one-to, total, any}
-use Rattle.model.specs.Levels.{gain, largest-level}
+use Rattle.model.specs.Levels.{largest-level}
 use Rattle.model.specs.Plan.{plan-of, row-length}
 use Rattle.model.specs.Refusal.{first, head-checks, tail-survivable}
 use Rattle.codec.proofs.Answered.{read-as, head-answered}
@@ -65,21 +65,21 @@ pub record Sheets : Type 0 where
   -- level 1/2, alpha 1/2: two months, an opening of 1, two sizes
   pub level : Makes
       (1 ∷ 2 ∷ 1 ∷ 0 ∷ 2 ∷ half ++ zero-bytes ++ half)
-      (record { months = 2; opening = 1; sizes = 2 })
+      (record { months = 2; opening = 1; sizes = 2; income = 1 })
       (2 ^ 29 ∷ 2 ^ 29 ∷ 2 ^ 29 ∷ 2 ^ 28 ∷ 2 ^ 28 ∷ [])
   -- a ramp from 1/4 by 1/8, alpha 0: three months, an opening of 0, one size
   pub ramp : Makes
       (2 ∷ 3 ∷ 0 ∷ 0 ∷ 1 ∷ quarter ++ eighth ++ zero-bytes)
-      (record { months = 3; opening = 0; sizes = 1 })
+      (record { months = 3; opening = 0; sizes = 1; income = 1 })
       (2 ^ 28 ∷ 3 * 2 ^ 27 ∷ 2 ^ 29 ∷ 2 ^ 30 ∷ 0 ∷ [])
   -- "Minus zero counts as zero": as a level's chance and step, and as alpha, so that there is no tail
   pub minus-zeros : Makes
       (1 ∷ 1 ∷ 5 ∷ 0 ∷ 3 ∷ minus-zero ++ minus-zero ++ minus-zero)
-      (record { months = 1; opening = 5; sizes = 3 })
+      (record { months = 1; opening = 5; sizes = 3; income = 1 })
       (0 ∷ 2 ^ 30 ∷ 0 ∷ 0 ∷ 0 ∷ [])
 
 pub sheets : Sheets
-unfolding big-endian number-at double sheet-rule sheet-of sheet-head sheet-row size-part chances weights chance weight repeated tail one-to total any first head-checks kind-checks rule-checks weight-checks sheet-checks tail-survivable plan-of largest-level gain within parts S Ieee.ofBits Ieee.ofInt Ieee.add Ieee.sub Ieee.mul Ieee.lt Ieee.le Ieee.ne
+unfolding big-endian number-at double sheet-rule sheet-of sheet-head sheet-row size-part chances weights chance weight repeated tail one-to total any first head-checks kind-checks rule-checks weight-checks sheet-checks tail-survivable plan-of largest-level within parts S Ieee.ofBits Ieee.ofInt Ieee.add Ieee.sub Ieee.mul Ieee.lt Ieee.le Ieee.ne
 sheets =
     record {
       level = makes _ _ _ refl refl refl;

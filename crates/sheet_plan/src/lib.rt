@@ -39,6 +39,7 @@ fn no_plan(refusal: u32) -> ReadAnswer
         months: 0,
         opening: 0,
         sizes: 0,
+        income: 0,
     };
     ReadAnswer {
         refusal,

@@ -49,6 +49,6 @@ sheet-of bytes =
       alpha = alpha-of bytes;
     }
 
--- the head of the plan that a sheet makes
+-- the head of the plan that a sheet makes: "Sheets make plans with c = 1."
 unfoldable pub sheet-head : RuleSheet → Head
-sheet-head s = record { months = s .months; opening = s .opening; sizes = s .sizes }
+sheet-head s = record { months = s .months; opening = s .opening; sizes = s .sizes; income = 1 }

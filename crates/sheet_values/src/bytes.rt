@@ -68,7 +68,7 @@ pub fn sheet_of(bytes: &[u8]) -> RuleSheet
     }
 }
 
-// The head of the plan that a sheet makes.
+// The head of the plan that a sheet makes, which has an income of 1.
 pub fn head_of(sheet: RuleSheet) -> Head
     ensures { λ r. ⌜ r ≡ sheet-head sheet ⌝ }
 {
@@ -76,5 +76,6 @@ pub fn head_of(sheet: RuleSheet) -> Head
         months: sheet.months,
         opening: sheet.opening,
         sizes: sheet.sizes,
+        income: 1,
     }
 }

@@ -36,7 +36,7 @@ module _ (h : Head) (row : List ℕ) (room : ℕ) (accepted : Accepted h row) (e
       record {
         accepted = opened-accepted h row accepted v l;
         inside = refl;
-        enough = omega (arith, enough, level-from v (h .opening) (h .months) l);
+        enough = omega (arith, enough, level-from (h .income) v (h .opening) (h .months) l);
       }
 
   pub asked-with :
@@ -46,9 +46,9 @@ module _ (h : Head) (row : List ℕ) (room : ℕ) (accepted : Accepted h row) (e
   asked-with v l = rw (not-refused 10 (omega arith) (smaller v l))
 
 -- the workspace of survive, whatever call it serves
-pub needed-is : (h : Head) (levels : ℕ) → levels ≡ row-levels (h .opening) (h .months) → 2 * levels ≡ survival-workspace h
+pub needed-is : (h : Head) (levels : ℕ) → levels ≡ row-levels (h .income) (h .opening) (h .months) → 2 * levels ≡ survival-workspace h
 unfolding workspace-needed rows-needed
-needed-is h levels e = rw e (sym (mul-one (2 * row-levels (h .opening) (h .months))))
+needed-is h levels e = rw e (sym (mul-one (2 * row-levels (h .income) (h .opening) (h .months))))
 
 -- the checks one after the other, and what is known where none fits
 module _ (h : Head) (row : List ℕ) (room places : ℕ) where
@@ -98,7 +98,7 @@ bounds-suffice h accepted = omega (arith, head-facts h accepted .opening-fits)
 pub bounds-are :
     (h : Head) (row : List ℕ) →
     let F = take (h .months + h .sizes - h .months) (drop (h .months) row) in
-    interleaved (h .opening + 1) (survival-row Down F (take (h .months) row)) (survival-row Up F (take (h .months) row)) ≡ survival-bounds h row
+    interleaved (h .opening + 1) (survival-row Down (h .income) F (take (h .months) row)) (survival-row Up (h .income) F (take (h .months) row)) ≡ survival-bounds h row
 unfolding survival-bounds plan-of
 bounds-are h row =
     rw (severity-lent h row)

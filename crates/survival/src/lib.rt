@@ -42,6 +42,7 @@ pub fn all_openings(head: Head, row: &[u32], workspace: &mut [u32], bounds: &mut
         &mut bounds[..places],
         &mut workspace[..needed],
         opening,
+        head.income,
         &row[..months],
         &row[months..end],
     );

@@ -8,7 +8,6 @@ ghost use Rattle.claims.specs.Values.{from-top};
 ghost use Rattle.month_rule.specs.Months.{PlanTerms};
 ghost use Rattle.survival.specs.Openings.{interleaved};
 ghost use Rattle.questions.specs.Survival.{survival-row};
-use model::GAIN;
 use model::Question;
 use month_rows::rows::fill;
 use month_rows::rows::value_at;
@@ -39,19 +38,20 @@ pub fn put_openings(
     bounds: &mut [u32],
     workspace: &mut [u32],
     opening: usize,
+    income: usize,
     chances: &[u32],
     severity: &[u32],
 )
     requires { ⌜ length (now bounds) ≡ 2 * (opening + 1) ⌝ }
-    requires { ⌜ length (now workspace) ≡ 2 * row-levels opening (length (now chances)) ⌝ }
+    requires { ⌜ (0 < income) × (length (now workspace) ≡ 2 * row-levels income opening (length (now chances))) ⌝ }
     requires { ⌜ PlanTerms (now severity) (now chances) ⌝ }
     ensures put { λ _.
         ⌜ now (bounds .exit)
-        ≡ interleaved (opening + 1) (survival-row Down (now (severity .entry)) (now (chances .entry))) (survival-row Up (now (severity .entry)) (now (chances .entry))) ⌝ }
+        ≡ interleaved (opening + 1) (survival-row Down income (now (severity .entry)) (now (chances .entry))) (survival-row Up income (now (severity .entry)) (now (chances .entry))) ⌝ }
     ensures cleared { λ _. ⌜ now (workspace .exit) ≡ replicate (length (now (workspace .entry))) 0 ⌝ }
 {
-    let half = opening + GAIN * chances.len() + 1;
-    let shape = shape_of(Question::Survive, half);
+    let half = opening + income * chances.len() + 1;
+    let shape = shape_of(Question::Survive, half, income);
     last_halves(workspace, shape);
     halves_back(workspace, shape, opening, chances, severity);
     put_pairs(bounds, workspace, half, opening);

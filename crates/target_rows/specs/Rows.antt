@@ -25,20 +25,21 @@ pub record Reaches (target top : ℕ) (row : Row) : Type 0 where
 
 -- Document 02: "The work is given up in the month when no level reaches the target any more." It is 0 where the work is not given up. The row before a month t
 -- is that of the months from t on.
-pub record GivenUp (severity : List ℕ) (opening : ℕ) (chances : List ℕ) (target month : ℕ) : Type 0 where
-  pub reached : (t : ℕ) → month ≤ t → t ≤ length chances → Reaches target (largest-level opening t) (survival-row Down severity (drop t chances))
-  pub below : 0 < month → Below target (largest-level opening (month - 1)) (survival-row Down severity (drop (month - 1) chances))
+pub record GivenUp (income : ℕ) (severity : List ℕ) (opening : ℕ) (chances : List ℕ) (target month : ℕ) : Type 0 where
+  pub reached : (t : ℕ) → month ≤ t → t ≤ length chances → Reaches target (largest-level income opening t) (survival-row Down income severity (drop t chances))
+  pub below : 0 < month → Below target (largest-level income opening (month - 1)) (survival-row Down income severity (drop (month - 1) chances))
 
--- What a walk back through the months takes beside its row, of so many numbers: the plan's terms, its filled sizes as they are listed, and an opening from which no
--- month leads past the row.
-pub record Walk (size opening : ℕ) (chances severity sizes : List ℕ) (dense : ℕ) : Type 0 where
+-- What a walk back through the months takes beside its row, of so many numbers: the plan's terms, its filled sizes as they are listed, an income, and an opening
+-- from which no month leads past the row.
+pub record Walk (size income opening : ℕ) (chances severity sizes : List ℕ) (dense : ℕ) : Type 0 where
   pub terms : PlanTerms severity chances
   pub listing : Listing severity sizes dense
-  pub inside : largest-level opening (length chances) < size
+  pub earns : 0 < income
+  pub inside : largest-level income opening (length chances) < size
 
 -- The least of the openings 0 to the largest whose lower bound reaches the target, with that bound; one above the largest, and 0, where none does.
-unfoldable pub least-found : List ℕ → ℕ → List ℕ → ℕ → Found
-least-found severity opening chances target = record { opening = v; lower = cond (ltb opening v) 0 (survival-row Down severity chances v) }
+unfoldable pub least-found : ℕ → List ℕ → ℕ → List ℕ → ℕ → Found
+least-found income severity opening chances target = record { opening = v; lower = cond (ltb opening v) 0 (survival-row Down income severity chances v) }
   where
     v : ℕ
-    v = least (opening + 1) (λ s. leb target (survival-row Down severity chances s))
+    v = least (opening + 1) (λ s. leb target (survival-row Down income severity chances s))

@@ -13,7 +13,6 @@ ghost use Rattle.questions.specs.Needs.{shape-of};
 ghost use Rattle.questions.specs.Survival.{survival-row};
 ghost use Rattle.target_rows.specs.Least.{least};
 ghost use Rattle.target_rows.specs.Rows.{Reaches, GivenUp, Walk, least-found};
-use model::GAIN;
 use model::Question;
 use model::Rounding;
 use month_rows::rows::fill;
@@ -27,25 +26,26 @@ use questions::needs::shape_of;
 fn lower_back(
     row: &mut [u32],
     opening: usize,
+    income: usize,
     chances: &[u32],
     severity: &[u32],
     sizes: &[usize],
     dense: usize,
     target: u32,
 ) -> usize
-    requires { ⌜ Walk (length (now row)) opening (now chances) (now severity) (now sizes) dense ⌝ }
+    requires { ⌜ Walk (length (now row)) income opening (now chances) (now severity) (now sizes) dense ⌝ }
     requires { ⌜ (0 < target) × (target ≤ S) ⌝ }
-    ensures given { λ r. ⌜ GivenUp (now (severity .entry)) opening (now (chances .entry)) target r ⌝ }
+    ensures given { λ r. ⌜ GivenUp income (now (severity .entry)) opening (now (chances .entry)) target r ⌝ }
     ensures back { λ r.
-        ⌜ TakenBack Down (now (severity .entry)) (shape-of Survive (length (now (row .entry)))) (largest-level opening (r - 1)) (drop (r - 1) (now (chances .entry)))
+        ⌜ TakenBack Down (now (severity .entry)) (shape-of Survive (length (now (row .entry))) income) (largest-level income opening (r - 1)) (drop (r - 1) (now (chances .entry)))
         (replicate (length (now (row .entry))) S) (now (row .exit)) ⌝ }
 {
-    let shape = shape_of(Question::Survive, row.len());
+    let shape = shape_of(Question::Survive, row.len(), income);
     fill(row, model::SCALE);
     let mut month = chances.len();
     'months: while 0 < month {
-        let top = opening + GAIN * month;
-        let last = top - GAIN;
+        let top = opening + income * month;
+        let last = top - income;
         month_back(
             row,
             shape,
@@ -109,18 +109,28 @@ fn found_in(row: &[u32], opening: usize, target: u32) -> Found
 pub fn least_lower(
     row: &mut [u32],
     opening: usize,
+    income: usize,
     chances: &[u32],
     severity: &[u32],
     sizes: &[usize],
     dense: usize,
     target: u32,
 ) -> Found
-    requires { ⌜ Walk (length (now row)) opening (now chances) (now severity) (now sizes) dense ⌝ }
+    requires { ⌜ Walk (length (now row)) income opening (now chances) (now severity) (now sizes) dense ⌝ }
     requires { ⌜ (0 < target) × (target ≤ S) ⌝ }
-    ensures found { λ r. ⌜ r ≡ least-found (now (severity .entry)) opening (now (chances .entry)) target ⌝ }
+    ensures found { λ r. ⌜ r ≡ least-found income (now (severity .entry)) opening (now (chances .entry)) target ⌝ }
     ensures cleared { λ _. ⌜ now (row .exit) ≡ replicate (length (now (row .entry))) 0 ⌝ }
 {
-    let month = lower_back(row, opening, chances, severity, sizes, dense, target);
+    let month = lower_back(
+        row,
+        opening,
+        income,
+        chances,
+        severity,
+        sizes,
+        dense,
+        target,
+    );
     if 0 < month {
         fill(row, 0);
         return Found {
@@ -137,16 +147,17 @@ pub fn least_lower(
 pub fn upper_at(
     row: &mut [u32],
     opening: usize,
+    income: usize,
     chances: &[u32],
     severity: &[u32],
     sizes: &[usize],
     dense: usize,
 ) -> u32
-    requires { ⌜ Walk (length (now row)) opening (now chances) (now severity) (now sizes) dense ⌝ }
-    ensures upper { λ r. ⌜ r ≡ survival-row Up (now (severity .entry)) (now (chances .entry)) opening ⌝ }
+    requires { ⌜ Walk (length (now row)) income opening (now chances) (now severity) (now sizes) dense ⌝ }
+    ensures upper { λ r. ⌜ r ≡ survival-row Up income (now (severity .entry)) (now (chances .entry)) opening ⌝ }
     ensures cleared { λ _. ⌜ now (row .exit) ≡ replicate (length (now (row .entry))) 0 ⌝ }
 {
-    let shape = shape_of(Question::Survive, row.len());
+    let shape = shape_of(Question::Survive, row.len(), income);
     fill(row, model::SCALE);
     all_months_back(
         row,

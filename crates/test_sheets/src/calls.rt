@@ -41,6 +41,7 @@ fn read_into(sheet: &[u8], row: &mut [u32]) {
     next(head.months as u64);
     next(head.opening as u64);
     next(head.sizes as u64);
+    next(head.income as u64);
     end_with_numbers(row);
 }
 

@@ -1,4 +1,4 @@
--- The records of the input: eight words of eight bytes, most significant byte first.
+-- The records of the input: nine words of eight bytes, most significant byte first.
 use Prim.Native.Nat.{ℕ, _*_}
 use mathlib.Core.List.{List}
 use lib.ListN.{getD, take, drop}
@@ -19,13 +19,13 @@ record-of bytes =
     record {
       kind = getD bytes 7 0;
       head =
-          record { months = word-at bytes 8; opening = word-at bytes 16; sizes = word-at bytes 24 };
-      number = word-at bytes 32;
-      target = number-at bytes 36;
-      room = word-at bytes 40;
-      fill = number-at bytes 52;
-      «fill_byte» = getD bytes 55 0;
-      length = word-at bytes 56;
+          record { months = word-at bytes 8; opening = word-at bytes 16; sizes = word-at bytes 24; income = word-at bytes 32 };
+      number = word-at bytes 40;
+      target = number-at bytes 44;
+      room = word-at bytes 48;
+      fill = number-at bytes 60;
+      «fill_byte» = getD bytes 63 0;
+      length = word-at bytes 64;
     }
 
 -- the record that stands for the end of the input

@@ -49,6 +49,7 @@ fn read_into(bytes: &[u8], row: &mut [u32]) {
     text::next(head.months as u64);
     text::next(head.opening as u64);
     text::next(head.sizes as u64);
+    text::next(head.income as u64);
     text::memory(row);
     text::end();
 }

@@ -1,4 +1,4 @@
-// The records of the input: eight words, then a row or a plan's bytes where the kind asks for them.
+// The records of the input: nine words, then a row or a plan's bytes where the kind asks for them.
 ghost use mathlib.Core.Path.{_≡_};
 ghost use Prim.Native.Nat.{_+_, _*_, _≤_};
 ghost use lib.ListN.{length, replicate};
@@ -25,10 +25,10 @@ pub struct Record {
 }
 
 pub fn next() -> Record {
-    let mut words = [0u8; 64];
+    let mut words = [0u8; 72];
     let got = io::read_full(libc::STDIN_FILENO, &mut words);
     let record = decode(&words);
-    if got == 64 { record } else { ended(record) }
+    if got == 72 { record } else { ended(record) }
 }
 
 fn ended(mut last: Record) -> Record
@@ -38,7 +38,7 @@ fn ended(mut last: Record) -> Record
     last
 }
 
-fn decode(words: &[u8; 64]) -> Record
+fn decode(words: &[u8; 72]) -> Record
     ensures { λ r. ⌜ r ≡ record-of (now (words .entry)) ⌝ }
 {
     Record {
@@ -47,13 +47,14 @@ fn decode(words: &[u8; 64]) -> Record
             months: word(words, 8),
             opening: word(words, 16),
             sizes: word(words, 24),
+            income: word(words, 32),
         },
-        number: word(words, 32),
-        target: number(words, 36),
-        room: word(words, 40),
-        fill: number(words, 52),
-        fill_byte: words[55],
-        length: word(words, 56),
+        number: word(words, 40),
+        target: number(words, 44),
+        room: word(words, 48),
+        fill: number(words, 60),
+        fill_byte: words[63],
+        length: word(words, 64),
     }
 }
 

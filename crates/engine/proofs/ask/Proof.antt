@@ -22,7 +22,7 @@ use Rattle.engine.specs.Answers.{answer}
 use Rattle.engine.specs.declared.bounds.LastRows.the-variants.{Placed}
 use Rattle.engine.specs.LastRows.{LastFits, opening-value}
 use Rattle.questions.proofs.RefusalLaws.{Asked, asked}
-use Rattle.questions.proofs.ShapeLaws.{shape-rows, shape-width}
+use Rattle.questions.proofs.ShapeLaws.{shape-rows, shape-width, shape-income}
 use Rattle.engine.proofs.AnswerLaws.{refused-out, answered-out, needed-halves, bound-is, bound-none}
 use Rattle.engine.proofs.ask.Statement.{statement}
 use Rattle.engine.proofs.ask.Tie as tie
@@ -121,9 +121,12 @@ answered c = unrefused (allowed c .before)
 abbrev of-shape : tie.After-shape-of → tie.Start
 of-shape c = start (answered c .before)
 
-width-is : (c : tie.After-shape-of) → let a = of-shape c .args in c .shape-of .result .width ≡ row-levels (a .ask .head .opening) (a .ask .head .months)
+width-is : (c : tie.After-shape-of) → let a = of-shape c .args in c .shape-of .result .width ≡ row-levels (a .ask .head .income) (a .ask .head .opening) (a .ask .head .months)
 width-is c =
-    ap (λ s. s .width) (c .shape-of .ensures) ∙ shape-width (of-shape c .args .ask .question) (c .before .row-levels .result) ∙ c .before .row-levels .ensures
+    ap (λ s. s .width) (c .shape-of .ensures) ∙ shape-width (of-shape c .args .ask .question) (c .before .row-levels .result) _ ∙ c .before .row-levels .ensures
+
+income-is : (c : tie.After-shape-of) → c .shape-of .result .income ≡ of-shape c .args .ask .head .income
+income-is c = ap (λ s. s .income) (c .shape-of .ensures) ∙ shape-income (of-shape c .args .ask .question) (c .before .row-levels .result) _
 
 needed-is : (c : tie.After-shape-of) → 2 * rows-size (c .shape-of .result) ≡ workspace-needed (of-shape c .args .ask)
 needed-is c =
@@ -135,7 +138,7 @@ rows-some c =
     let q = of-shape c .args .ask .question in
     omega (
       arith,
-      ap (λ s. s .rows) (c .shape-of .ensures) ∙ shape-rows q (c .before .row-levels .result),
+      ap (λ s. s .rows) (c .shape-of .ensures) ∙ shape-rows q (c .before .row-levels .result) _,
       rows-few q (known (answered c) .inside),
     )
 
@@ -162,7 +165,7 @@ work-out-requires c κs =
     let known = known (answered at-shape) in (
       known .accepted,
       (
-        record { wide = width-is at-shape; within = omega arith; enough = omega (arith, needed-is at-shape, known .enough) },
+        record { wide = width-is at-shape; earns = income-is at-shape; within = omega arith; enough = omega (arith, needed-is at-shape, known .enough) },
         rows-some at-shape,
       ),
     )

@@ -19,7 +19,7 @@ use Rattle.questions.specs.Needs.{shape-of}
 use Rattle.engine.specs.Answers.{ruin-answer}
 use Rattle.engine.specs.LastRows.{opening-value}
 use Rattle.questions.proofs.RefusalLaws.{Asked, asked, month-inside}
-use Rattle.questions.proofs.ShapeLaws.{shape-width}
+use Rattle.questions.proofs.ShapeLaws.{shape-width, shape-income}
 use Rattle.engine.proofs.AnswerLaws.{refused-out, answered-out, needed-halves, ruin-bound-is, ruin-fits}
 use Rattle.engine.proofs.ruin_in_month.Statement.{statement}
 use Rattle.engine.proofs.ruin_in_month.Tie as tie
@@ -81,8 +81,11 @@ mul-t9 c = omega (arith, inside (answered c), fits (answered c) .head .months-fi
 shared-slice-read-t13 : tie.Need-shared-slice-read-t13
 shared-slice-read-t13 c = omega (arith, inside (answered (c .before)), fits (answered (c .before)) .row-is)
 
-width-is : (c : tie.After-shape-of) → let a = of-shape c .args in c .shape-of .result .width ≡ row-levels (a .head .opening) (a .head .months)
-width-is c = ap (λ s. s .width) (c .shape-of .ensures) ∙ shape-width Survive (c .before .row-levels .result) ∙ c .before .row-levels .ensures
+width-is : (c : tie.After-shape-of) → let a = of-shape c .args in c .shape-of .result .width ≡ row-levels (a .head .income) (a .head .opening) (a .head .months)
+width-is c = ap (λ s. s .width) (c .shape-of .ensures) ∙ shape-width Survive (c .before .row-levels .result) _ ∙ c .before .row-levels .ensures
+
+income-is : (c : tie.After-shape-of) → c .shape-of .result .income ≡ of-shape c .args .head .income
+income-is c = ap (λ s. s .income) (c .shape-of .ensures) ∙ shape-income Survive (c .before .row-levels .result) _
 
 needed-is : (c : tie.After-shape-of) → 2 * rows-size (c .shape-of .result) ≡ survival-workspace (of-shape c .args .head)
 needed-is c =
@@ -115,8 +118,8 @@ work-out-requires c κs =
     let else1 = answered at-shape in (
       known else1 .accepted,
       (
-        record { wide = width-is at-shape; within = omega (arith, inside else1); enough = omega (arith, needed-is at-shape, known else1 .enough) },
-        ruin-fits (a .head) (a .row .now) (fits else1) (a .month - 1) (shape .result) (at-shape .before .row-levels .result) (shape .ensures),
+        record { wide = width-is at-shape; earns = income-is at-shape; within = omega (arith, inside else1); enough = omega (arith, needed-is at-shape, known else1 .enough) },
+        ruin-fits (a .head) (a .row .now) (fits else1) (a .month - 1) (shape .result) (at-shape .before .row-levels .result) _ (shape .ensures),
       ),
     )
 

@@ -174,7 +174,7 @@ abbrev tail-read : tie.Then5 → tie.After-shared-slice-known2
 tail-read c = c .before
 
 largest-level-requires : tie.Need-largest-level-requires
-largest-level-requires c κs = head-ok (head-5 (tail-read c))
+largest-level-requires c κs = omega (arith, limits (head-5 (tail-read c)) .span-fits)
 
 abbrev tail-found : tie.After-largest-level → tie.Then5
 tail-found c = c .before

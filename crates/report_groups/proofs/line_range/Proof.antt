@@ -1,7 +1,6 @@
 -- `report_groups::line_range` meets its contract, by the question's cases. Assumes nothing.
 use native.Mathlib.Omega.{arith}
 use borrow.Author.Needs.{needs}
-use Rattle.model.specs.Levels.{gain}
 use Rattle.model.proofs.Facts.{head-facts}
 use Rattle.report_groups.specs.Groups.{line-range}
 use Rattle.report_groups.proofs.line_range.Statement.{statement}
@@ -23,7 +22,7 @@ enum-told-3 : tie.Need-enum-told-3
 enum-told-3 c = search needs
 
 largest-level-requires : tie.Need-largest-level-requires
-largest-level-requires c κs = search needs
+largest-level-requires c κs = omega (arith, head-facts _ (c .before .before .pre) .span-fits)
 
 enum-told-4 : tie.Need-enum-told-4
 enum-told-4 c = search needs
@@ -44,7 +43,7 @@ unfolding line-range
 returns-3 c = rw (c .before .enum-told3 .given .1, c .largest-level .ensures)
 
 returns-4 : tie.Need-returns-4
-unfolding line-range gain
+unfolding line-range
 returns-4 c = rw (c .before .enum-told4 .given .1)
 
 pub line-range-spec : {M : Type 1} → statement M

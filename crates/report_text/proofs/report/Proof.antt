@@ -1,7 +1,6 @@
 -- `report_text::report` meets its contract: the text is appended to none, and stands before what the buffer had past it. Assumes nothing.
 use native.Mathlib.Omega.{arith}
 use borrow.Author.Needs.{needs}
-use Rattle.model.specs.Levels.{gain}
 use Rattle.report_groups.specs.Groups.{most-lines}
 use Rattle.text.proofs.TextLaws.{appended-whole}
 use Rattle.report_text.proofs.report.Statement.{statement}
@@ -14,7 +13,7 @@ slice-aggregate-put-report : tie.Need-slice-aggregate-put-report
 slice-aggregate-put-report c = search needs
 
 put-report-requires : tie.Need-put-report-requires
-unfolding most-lines gain
+unfolding most-lines
 put-report-requires c κs = (omega arith, search needs)
 
 returns : tie.Need-returns

@@ -1,7 +1,7 @@
 -- `ruin_halves` meets its contract: all 0 first, and then each half as it came back (`HalfLaws`).
 use mathlib.Core.Path.{_≡_, _∙_}
 use mathlib.Core.List.{List, _++_}
-use Prim.Native.Nat.{ℕ, _*_, _-_, _<_, zero-le}
+use Prim.Native.Nat.{ℕ, _+_, _*_, _-_, _^_, _<_, zero-le}
 use native.Mathlib.Omega.{arith}
 use borrow.Rule.Slice.PartMut.{midOf}
 use lib.ListN.{length, take, drop, replicate, length-take, length-replicate}
@@ -49,8 +49,8 @@ second-zeros : (c : tie.After-fill) → drop (of-fill c .args .half) (c .fill .l
 second-zeros c = zeros-second (c .fill .last .0) _ (of-fill c .args .half) (c .fill .ensures) (of-fill c .pre .0 .0)
 
 -- what a row needs of a half that is all 0
-needed : (s : tie.Start) (part : List ℕ) → part ≡ replicate (s .args .half) 0 → (s .args .top < length part) × Parts part
-needed s part e = rw e (rw length-replicate (s .pre .0 .1), parts-replicate (s .args .half) 0 zero-le)
+needed : (s : tie.Start) (part : List ℕ) → part ≡ replicate (s .args .half) 0 → (s .args .top < length part) × Parts part × (s .args .top + s .args .income < 2 ^ 64)
+needed s part e = rw e (rw length-replicate (s .pre .0 .1), parts-replicate (s .args .half) 0 zero-le, s .pre .0 .2)
 
 ruin-row-requires : tie.Need-ruin-row-requires
 ruin-row-requires c κs =

@@ -5,17 +5,16 @@ use mathlib.Core.Path.{_≡_}
 use Prim.Native.Nat.{_+_, _*_, _-_, _≤_}
 use native.Mathlib.Nat.{zero-add}
 use Rattle.model.specs.Scale.{S}
-use Rattle.model.specs.Levels.{gain}
 use Rattle.month_rows.proofs.RowLaws.{Rewriting, rewriting-start, rewriting-turn}
 use Rattle.ruin_rows.proofs.RuinLaws.{ruin-places, product-fits, ruin-value, value-fits}
 use Rattle.ruin_rows.proofs.ruin_row.Statement.{statement}
 use Rattle.ruin_rows.proofs.ruin_row.Tie as tie
 
 abbrev Inv-loop : tie.InvT-loop
-Inv-loop row₀ top severity tail chance round i₀ row i = (i ≤ top + 1) × Rewriting row₀ 0 (ruin-places round severity tail chance top) row i
+Inv-loop row₀ top income severity tail chance round i₀ row i = (i ≤ top + 1) × Rewriting row₀ 0 (ruin-places round income severity tail chance top) row i
 
 abbrev μ-loop : tie.MeasureT-loop
-μ-loop row₀ top severity tail chance round i₀ row i = top + 1 - i
+μ-loop row₀ top income severity tail chance round i₀ row i = top + 1 - i
 
 loop-holds : tie.Need-loop-holds Inv-loop μ-loop
 loop-holds c =
@@ -68,21 +67,20 @@ loop-less : tie.Need-loop-less Inv-loop μ-loop
 loop-less c = search needs
 
 loop-again : tie.Need-loop-again Inv-loop μ-loop
-unfolding gain
 loop-again c =
     let weight = weighed c .ruin-weight in
     let loop = at-loop (weighed c) .loop in
     let from = start (at-loop (weighed c)) in
     let a = from .args in
     let value =
-    ruin-value (a .round) (a .severity .now) (a .tail) (a .chance) (a .top) (loop .i) (weight .result) (c .divide .result) (weight .ensures)
+    ruin-value (a .round) (a .income) (a .severity .now) (a .tail) (a .chance) (a .top) (loop .i) (weight .result) (c .divide .result) (weight .ensures)
     (rw (c .before .wide .ensures) at (c .divide .ensures)) in (
       omega (arith, weighed c .before .loop-test .taken),
       rw zero-add at
           (rewriting-turn (a .row .now) 0 _ (loop .row) (loop .i) (c .divide .result) (loop .inv .1)
           (omega (arith, loop .inv .1 .same-length, from .pre .0 .0, weighed c .before .loop-test .taken))
           value
-          (value-fits (a .round) (a .severity .now) (a .tail) (a .chance) (a .top) (loop .i) (c .divide .result) (from .pre .1) value)),
+          (value-fits (a .round) (a .income) (a .severity .now) (a .tail) (a .chance) (a .top) (loop .i) (c .divide .result) (from .pre .1) value)),
     )
 
 same-length : tie.Need-same-length Inv-loop μ-loop

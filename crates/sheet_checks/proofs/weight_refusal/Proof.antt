@@ -52,7 +52,7 @@ abbrev less-found : tie.After-head-of → tie.Then2
 less-found c = c .before
 
 largest-level-requires : tie.Need-largest-level-requires
-largest-level-requires c κs = rw (c .head-of .ensures) (start (summed (less-found c)) .pre .0)
+largest-level-requires c κs = rw (c .head-of .ensures) (omega (arith, limits (less-found c) .span-fits))
 
 -- the weights leave something
 less : (c : tie.Then2) → let s = sheet-at (summed c) in total (weights (s .alpha) (s .sizes)) < S
@@ -65,9 +65,9 @@ head-made c = c .before
 level-is :
     (c : tie.After-largest-level) →
     let s = sheet-at (summed (less-found (head-made c))) in
-    c .largest-level .result ≡ largest-level (s .opening) (s .months)
+    c .largest-level .result ≡ largest-level 1 (s .opening) (s .months)
 unfolding sheet-head
-level-is c = c .largest-level .ensures ∙ ap (λ h. largest-level (h .opening) (h .months)) (head-made c .head-of .ensures)
+level-is c = c .largest-level .ensures ∙ ap (λ h. largest-level (h .income) (h .opening) (h .months)) (head-made c .head-of .ensures)
 
 returns-2 : tie.Need-returns-2
 returns-2 c =

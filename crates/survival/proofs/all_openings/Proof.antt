@@ -103,8 +103,11 @@ put-openings-requires c κs =
     let months = length-take-le (a .head .months) (a .row .now) (omega (arith, fits else1 .row-is)) in (
       length-take-le (2 * (a .head .opening + 1)) (a .bounds .now) (known else1 .wide),
       (
-        length-take-le (2 * at-levels .row-levels .result) (a .workspace .now) (enough at-levels)
-            ∙ ap (λ n. 2 * n) (at-levels .row-levels .ensures ∙ ap (λ n. row-levels (a .head .opening) n) (sym months)),
+        (
+          fits else1 .head .income-some,
+          length-take-le (2 * at-levels .row-levels .result) (a .workspace .now) (enough at-levels)
+              ∙ ap (λ n. 2 * n) (at-levels .row-levels .ensures ∙ ap (λ n. row-levels (a .head .income) (a .head .opening) n) (sym months)),
+        ),
         terms-lent (a .head) (a .row .now) (fits else1) (a .head .months),
       ),
     )

@@ -66,11 +66,14 @@ bounds-from-requires c κs =
     let w = s .pre .1 .0 in (
       (
         length-take-le (2 * rows-size (a .shape)) (a .workspace .now) (w .enough),
-        levels-fit (a .head) (a .row .now) (known s .row-is) (a .months) (a .shape .width) (w .within) (w .wide),
+        rw (w .earns) (levels-fit (a .head) (a .row .now) (known s .row-is) (a .months) (a .shape .width) (w .within) (w .wide)),
       ),
       (
-        terms-lent (a .head) (a .row .now) (known s) (a .months),
-        last-lent (a .last) (a .shape) (a .head) (a .row .now) (s .pre .1 .1),
+        (rw (w .earns) (known s .head .income-some), rw (w .earns) (known s .head .income-fits)),
+        (
+          terms-lent (a .head) (a .row .now) (known s) (a .months),
+          last-lent (a .last) (a .shape) (a .head) (a .row .now) (s .pre .1 .1),
+        ),
       ),
     )
 
@@ -86,8 +89,8 @@ returns c =
     let w = s .pre .1 .0 in
     let count = length-take-le (2 * rows-size (a .shape)) (a .workspace .now) (w .enough) in (
       answer-worked (call .result .lower) (call .result .upper) _ _
-          (value-lent Down (a .head) (a .row .now) (a .months) (a .shape) (a .last) (call .result .lower) (w .within) (call .ensures .0))
-          (value-lent Up (a .head) (a .row .now) (a .months) (a .shape) (a .last) (call .result .upper) (w .within) (call .ensures .1 .0)),
+          (value-lent Down (a .head) (a .row .now) (a .months) (a .shape) (w .earns) (a .last) (call .result .lower) (w .within) (call .ensures .0))
+          (value-lent Up (a .head) (a .row .now) (a .months) (a .shape) (w .earns) (a .last) (call .result .upper) (w .within) (call .ensures .1 .0)),
       ap (λ front. front ++ drop (2 * rows-size (a .shape)) (a .workspace .now)) (call .ensures .1 .1 ∙ ap (λ n. replicate n 0) count),
     )
 

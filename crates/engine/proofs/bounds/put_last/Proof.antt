@@ -40,7 +40,7 @@ half : (c : tie.After-ruin-halves-arg) → rows-size (ruin c .args .shape) ≡ r
 half c = one-row (ruin c .args .shape) (terms c .0)
 
 ruin-halves-requires : tie.Need-ruin-halves-requires
-ruin-halves-requires c κs = let s = ruin c in ((s .pre .0 .0 ∙ ap (λ n. 2 * n) (half c), s .pre .0 .1), terms c .1)
+ruin-halves-requires c κs = let s = ruin c in ((s .pre .0 .0 ∙ ap (λ n. 2 * n) (half c), s .pre .0 .1, s .pre .0 .2), terms c .1)
 
 same-length : tie.Need-same-length
 same-length c = search needs

@@ -7,7 +7,6 @@ use native.Mathlib.Nat.{le-trans}
 use native.Mathlib.Omega.{arith}
 use lib.ListN.{length, length-take}
 use Rattle.model.specs.declared.Rounding.{Rounding}
-use Rattle.model.specs.Levels.{gain}
 use Rattle.claims.proofs.ListingLaws.{listing-take}
 use Rattle.month_rows.specs.Rows.{MonthTerms}
 use Rattle.month_rows.proofs.ManyRows.{row-fits}
@@ -15,16 +14,16 @@ use Rattle.month_rows.proofs.OneMonth.{rows-before, rows-left, own-size
 use Rattle.month_rows.proofs.rows.all_rows_back.Statement.{statement}
 use Rattle.month_rows.proofs.rows.all_rows_back.Tie as tie
 
-record Inv (old : List ℕ) (top : ℕ) (F : List ℕ) (P : ℕ) (round : Rounding) (tallied : Bool) (width live last : ℕ) (rows : List ℕ) (j : ℕ) : Type 0 where
+record Inv (old : List ℕ) (top : ℕ) (F : List ℕ) (P : ℕ) (round : Rounding) (tallied : Bool) (width income live last : ℕ) (rows : List ℕ) (j : ℕ) : Type 0 where
   within : j ≤ last
-  levels : live + gain ≡ top + 1
-  back : GoingBack last width live (rows-before round F P tallied (rows-left last width top old)) old rows j
+  levels : live + income ≡ top + 1
+  back : GoingBack last width live (rows-before round income F P tallied (rows-left last width top old)) old rows j
 
 abbrev Inv-loop : tie.InvT-loop
-Inv-loop rows₀ top severity sizes dense chance round tallied width live last j₀ rows j = Inv rows₀ top severity chance round tallied width live last rows j
+Inv-loop rows₀ top severity sizes dense chance round tallied width income live last j₀ rows j = Inv rows₀ top severity chance round tallied width income live last rows j
 
 abbrev μ-loop : tie.MeasureT-loop
-μ-loop rows₀ top severity sizes dense chance round tallied width live last j₀ rows j = last - j
+μ-loop rows₀ top severity sizes dense chance round tallied width income live last j₀ rows j = last - j
 
 add-live : tie.Need-add-live Inv-loop μ-loop
 add-live c =
@@ -32,14 +31,12 @@ add-live c =
     omega (arith, row-fits 0 (from .args .shape .rows) (from .args .shape .width) (from .pre .0 .some), from .pre .0 .size)
 
 sub-live : tie.Need-sub-live Inv-loop μ-loop
-unfolding gain
 sub-live c = omega arith
 
 sub-last : tie.Need-sub-last Inv-loop μ-loop
 sub-last c = omega (arith, c .before .before .before .before .pre .0 .some)
 
 loop-holds : tie.Need-loop-holds Inv-loop μ-loop
-unfolding gain
 loop-holds c =
     let from = c .before .before .before .before in
     record {
@@ -97,7 +94,7 @@ row-back-requires : tie.Need-row-back-requires Inv-loop μ-loop
 row-back-requires c κs =
     let inv = turn c .before .loop .inv in
     let from = start (turn c .before) in
-    ((omega arith, inv .levels, omega (arith, fits (turn c), inv .back .same-length)), (inv .back .parts, from .pre .1 .1))
+    ((omega arith, omega (arith, inv .levels, from .pre .0 .income-some), omega (arith, fits (turn c), inv .back .same-length)), (inv .back .parts, from .pre .1 .1))
 
 add-j : tie.Need-add-j Inv-loop μ-loop
 add-j c = omega arith
@@ -116,7 +113,7 @@ loop-again c =
       within = omega (arith, at-turn .loop-test .taken);
       levels = loop .inv .levels;
       back =
-          going-back-turn _ (a .shape .width) (a .shape .tallied) (a .top) _ (loop .inv .levels) (from .pre .1 .0 .inside) (a .rows .now) (a .severity .now) (a .chance)
+          going-back-turn _ (a .shape .width) (a .shape .tallied) (a .shape .income) (from .pre .0 .income-some) (a .top) _ (loop .inv .levels) (from .pre .1 .0 .inside) (a .rows .now) (a .severity .now) (a .chance)
           (a .round) (loop .rows) (loop .j) (at-turn .loop-test .taken) (loop .inv .back) (call .last .0) (call .kept .0) (call .ensures .1) (call .ensures .0);
     }
 
@@ -144,15 +141,14 @@ row-back-requires-2 c κs =
       weights-fit = le-trans (total-take-le (at-sizes .own-sizes .result) (from .args .severity .now)) (from .pre .1 .1 .weights-fit);
       chance-fits = from .pre .1 .1 .chance-fits;
     } in
-    ((omega arith, inv .levels, omega (arith, last-fits (ended at-sizes), inv .back .same-length)), (inv .back .parts, own))
+    ((omega arith, omega (arith, inv .levels, from .pre .0 .income-some), omega (arith, last-fits (ended at-sizes), inv .back .same-length)), (inv .back .parts, own))
 
 done :
     (c : tie.After-row-back2 Inv-loop μ-loop) →
     let a = start (ended (sized (c .before)) .before) .args in
-    GoingBack (a .shape .rows - 1) (a .shape .width) (a .top + 1 - gain)
-    (rows-before (a .round) (a .severity .now) (a .chance) (a .shape .tallied) (rows-left (a .shape .rows - 1) (a .shape .width) (a .top) (a .rows .now)))
+    GoingBack (a .shape .rows - 1) (a .shape .width) (a .top + 1 - a .shape .income)
+    (rows-before (a .round) (a .shape .income) (a .severity .now) (a .chance) (a .shape .tallied) (rows-left (a .shape .rows - 1) (a .shape .width) (a .top) (a .rows .now)))
     (a .rows .now) (c .row-back2 .last .0) (a .shape .rows - 1 + 1)
-unfolding gain
 done c =
     let call = c .row-back2 in
     let at-sizes = sized (c .before) in
@@ -161,15 +157,13 @@ done c =
     let from = start (ended at-sizes .before) in
     let a = from .args in
     let here : loop .j ≡ a .shape .rows - 1 = omega (arith, loop .inv .within, ended at-sizes .loop-test .left) in
-    going-back-end _ (a .shape .width) (a .shape .tallied) (a .top) _ (loop .inv .levels) (from .pre .1 .0 .inside) (a .rows .now) (a .severity .now) (a .chance) (a .round)
+    going-back-end _ (a .shape .width) (a .shape .tallied) (a .shape .income) (from .pre .0 .income-some) (a .top) _ (loop .inv .levels) (from .pre .1 .0 .inside) (a .rows .now) (a .severity .now) (a .chance) (a .round)
     (loop .rows) (loop .j) here (loop .inv .back) (own .result) (own .ensures) (call .last .0) (call .kept .0) (call .ensures .1) (call .ensures .0)
 
 same-length : tie.Need-same-length Inv-loop μ-loop
-unfolding gain
 same-length c = done (c .before .before) .same-length
 
 returns : tie.Need-returns Inv-loop μ-loop
-unfolding gain
 returns c =
     let at-call = c .before .before in
     let at-loop = ended (sized (at-call .before)) .before in
@@ -178,11 +172,11 @@ returns c =
     let a = from .args in
     let whole : (k : ℕ) → k < a .shape .rows → k ≤ a .shape .rows - 1 = λ k l. omega arith in (
       (λ k l.
-          going-back-done _ (a .shape .width) (a .shape .tallied) (a .top) _ (inv .levels) (from .pre .1 .0 .inside) (a .rows .now) (a .severity .now) (a .chance) (a .round) _ _
+          going-back-done _ (a .shape .width) (a .shape .tallied) (a .shape .income) (from .pre .0 .income-some) (a .top) _ (inv .levels) (from .pre .1 .0 .inside) (a .rows .now) (a .severity .now) (a .chance) (a .round) _ _
           (omega arith) (done at-call) k (whole k l)),
       (
         (λ k l.
-            going-back-beyond _ (a .shape .width) (a .shape .tallied) (a .top) _ (inv .levels) (from .pre .1 .0 .inside) (a .rows .now) (a .severity .now) (a .chance) (a .round) _ _
+            going-back-beyond _ (a .shape .width) (a .shape .tallied) (a .shape .income) (from .pre .0 .income-some) (a .top) _ (inv .levels) (from .pre .1 .0 .inside) (a .rows .now) (a .severity .now) (a .chance) (a .round) _ _
             (omega arith) (done at-call) k (whole k l)),
         done at-call .parts,
       ),

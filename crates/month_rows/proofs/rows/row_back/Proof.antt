@@ -7,7 +7,6 @@ use lib.ListN.{length, take, drop}
 use lib.Seq.{getD-drop}
 use Rattle.model.specs.Scale.{S}
 use Rattle.model.specs.MonthRule.{claim-sum}
-use Rattle.model.proofs.LevelLaws.{gain-some}
 use Rattle.model.proofs.Month.{claim-sum-fits, value-fits}
 use Rattle.claims.specs.Values.{from-top}
 use Rattle.claims.specs.Listing.{ListsRange}
@@ -60,7 +59,7 @@ inside :
     (i < a .top) × (a .claimed + a .top ≤ length (at-loop c .loop .rows)) × (a .quiet ≤ a .claimed)
 inside c =
     let from = start (at-loop c) in
-    (omega (arith, gain-some), omega (arith, at-loop c .loop .inv .1 .same-length, from .pre .0 .2), from .pre .0 .0)
+    (omega arith, omega (arith, at-loop c .loop .inv .1 .same-length, from .pre .0 .2), from .pre .0 .0)
 
 add-next : tie.Need-add-next Inv-loop μ-loop
 add-next c = omega (arith, inside c)

@@ -7,7 +7,7 @@ use borrow.Fn.Kinds.{In}
 use borrow.Fn.PlainCycle.{Measures, is, falls, and}
 use lib.ListN.{length, getD, take, drop, length-drop}
 use lib.Seq.{length-take-le}
-use Rattle.model.specs.Levels.{gain, largest-level}
+use Rattle.model.specs.Levels.{largest-level}
 use Rattle.model.proofs.LevelLaws.{level-next, level-from}
 use Rattle.claims.specs.Listing.{Listing}
 use Rattle.month_rows.specs.Rows.{MonthTerms}
@@ -57,7 +57,7 @@ abbrev start : (t : ℕ) → Else1 t → Start t
 start t c = c .before .before .before .before .before
 
 abbrev some-months : (t : ℕ) → After-lent t → Else1 t
-some-months t c = c .before .before
+some-months t c = c .before .before .before
 
 abbrev later : (t : ℕ) → After-read t → After-later t
 later t c = c .before .before .before .before
@@ -72,24 +72,24 @@ terms-known t s = s .pre .1 .1 .1 .0
 listing-known : (t : ℕ) (s : Start t) → Listing (s .args .severity .now) (s .args .sizes .now) (s .args .dense)
 listing-known t s = s .pre .1 .1 .1 .1
 
--- a month's gain keeps within the rows
-record Fits (opening months width size : ℕ) : Type 0 where
+-- a month's income keeps within the rows
+record Fits (income opening months width size : ℕ) : Type 0 where
   some-month : 0 < months
-  levels : largest-level (opening + gain) (months - 1) < width
-  first : opening + gain < width
+  levels : largest-level income (opening + income) (months - 1) < width
+  first : opening + income < width
   row : width ≤ size
 
-fits : (t : ℕ) (c : Else1 t) → let a = start t c .args in Fits (a .opening) (length (a .chances .now)) (a .shape .width) (length (a .rows .now))
+fits : (t : ℕ) (c : Else1 t) → let a = start t c .args in Fits (a .shape .income) (a .opening) (length (a .chances .now)) (a .shape .width) (length (a .rows .now))
 fits t c =
     let from = start t c in
     let a = from .args in
     let n = length (a .chances .now) in
     let some : n ≡ suc (n - 1) = omega arith in
-    let levels : largest-level (a .opening + gain) (n - 1) < a .shape .width = omega (arith, level-next (a .opening) (n - 1), ap (largest-level (a .opening)) some) in
+    let levels : largest-level (a .shape .income) (a .opening + a .shape .income) (n - 1) < a .shape .width = omega (arith, level-next (a .shape .income) (a .opening) (n - 1), ap (largest-level (a .shape .income) (a .opening)) some) in
     record {
       some-month = omega arith;
       levels = levels;
-      first = omega (arith, level-from (a .opening + gain) (a .opening + gain) (n - 1) (omega arith));
+      first = omega (arith, level-from (a .shape .income) (a .opening + a .shape .income) (a .opening + a .shape .income) (n - 1) (omega arith));
       row = omega (arith, rows-known t from .size, row-fits 0 (a .shape .rows) (a .shape .width) (rows-known t from .some));
     }
 
@@ -100,20 +100,18 @@ all-months-back-returns t c =
     (rw (no-chances (a .chances .now) (omega arith)) (taken-back-none (a .round) (a .severity .now) (a .shape) (a .opening) (a .rows .now)), rows-known t from .parts)
 
 all-months-back-add-after : (t : ℕ) → all-months-back-lts.Need-add-after (claims t) (all-months-back-at t) all-months-back.Post
-unfolding gain
-all-months-back-add-after t c = omega (arith, fits t c .first, fits t c .row)
+all-months-back-add-after t c = omega (arith, fits t (c .before) .first, fits t (c .before) .row)
 
 all-months-back-sub-all-months-back : (t : ℕ) → all-months-back-lts.Need-sub-all-months-back (claims t) (all-months-back-at t) all-months-back.Post
-all-months-back-sub-all-months-back t c = omega (arith, fits t (c .before) .some-month)
+all-months-back-sub-all-months-back t c = omega (arith, fits t (c .before .before) .some-month)
 
 all-months-back-part-all-months-back-start : (t : ℕ) → all-months-back-lts.Need-part-all-months-back-start (claims t) (all-months-back-at t) all-months-back.Post
-all-months-back-part-all-months-back-start t c = omega (arith, fits t (c .before) .some-month)
+all-months-back-part-all-months-back-start t c = omega (arith, fits t (c .before .before) .some-month)
 
 all-months-back-part-all-months-back-end : (t : ℕ) → all-months-back-lts.Need-part-all-months-back-end (claims t) (all-months-back-at t) all-months-back.Post
-all-months-back-part-all-months-back-end t c = omega (arith, fits t (c .before) .some-month)
+all-months-back-part-all-months-back-end t c = omega (arith, fits t (c .before .before) .some-month)
 
 all-months-back-all-months-back-requires : (t : ℕ) → all-months-back-lts.Need-all-months-back-requires (claims t) (all-months-back-at t) all-months-back.Post
-unfolding gain
 all-months-back-all-months-back-requires t c κs =
     let else1 = some-months t c in
     let from = start t else1 in
@@ -128,7 +126,6 @@ all-months-back-shared-slice-read-month-back : (t : ℕ) → all-months-back-lts
 all-months-back-shared-slice-read-month-back t c = omega (arith, fits t (some-months t (later t c .before)) .some-month)
 
 all-months-back-month-back-requires : (t : ℕ) → all-months-back-lts.Need-month-back-requires (claims t) (all-months-back-at t) all-months-back.Post
-unfolding gain
 all-months-back-month-back-requires t c κs =
     let back = later t c in
     let else1 = some-months t (back .before) in
@@ -141,14 +138,13 @@ all-months-back-month-back-requires t c κs =
       chance-fits = terms-known t from .chances-fit .each 0;
     } in (
       rows-in-again (a .shape) (a .rows .now) (back .all-months-back .last .0) (rows-known t from) (back .all-months-back .kept .0) (back .all-months-back .ensures .1),
-      (record { gained = omega arith; inside = fits t else1 .first }, terms),
+      (record { income-below = omega arith; inside = fits t else1 .first }, terms),
     )
 
 all-months-back-same-length : (t : ℕ) → all-months-back-lts.Need-same-length (claims t) (all-months-back-at t) all-months-back.Post
 all-months-back-same-length t c = search needs
 
 all-months-back-returns-2 : (t : ℕ) → all-months-back-lts.Need-returns-2 (claims t) (all-months-back-at t) all-months-back.Post
-unfolding gain
 all-months-back-returns-2 t c =
     let at-first = c .before .before in
     let first = at-first .month-back in

@@ -6,7 +6,7 @@ use native.Mathlib.Omega.{arith}
 use borrow.Author.Needs.{needs}
 use lib.ListN.{length, drop}
 use lib.Seq.{length-take-le, length-front}
-use Rattle.model.specs.Levels.{gain, largest-level}
+use Rattle.model.specs.Levels.{largest-level}
 use Rattle.model.proofs.LevelLaws.{level-from}
 use Rattle.target_rows.proofs.WalkLaws.{found-opening, found-lower}
 use Rattle.opening_search.proofs.SearchLaws.{none-found, one-found, zero-still, second-count, zero-again}
@@ -19,14 +19,14 @@ record Halves (half levels room : ℕ) : Type 0 where
   whole : room ≡ 2 * half
 
 abbrev half-of : tie.Start → ℕ
-half-of c = c .args .opening + 1 * length (c .args .chances .now) + 1
+half-of c = c .args .opening + c .args .income * length (c .args .chances .now) + 1
 
-halves : (c : tie.Start) → let a = c .args in Halves (half-of c) (largest-level (a .opening) (length (a .chances .now))) (length (a .workspace .now))
-unfolding largest-level gain
-halves c = record { levels-inside = omega arith; whole = omega (arith, c .pre .0) }
+halves : (c : tie.Start) → let a = c .args in Halves (half-of c) (largest-level (a .income) (a .opening) (length (a .chances .now))) (length (a .workspace .now))
+unfolding largest-level
+halves c = record { levels-inside = omega arith; whole = omega (arith, c .pre .0 .1) }
 
 mul-half : tie.Need-mul-half
-mul-half c = search needs
+mul-half c = omega (arith, halves (c .before .before .before .before) .whole)
 
 add-half : tie.Need-add-half
 add-half c = omega (arith, halves (c .before .before .before .before) .whole)
@@ -60,7 +60,7 @@ least-lower-requires c κs =
     let at-fill = c .before .before .before in
     let from = start at-fill in
     let size = length-take-le (half-of from) (at-fill .fill .last .0) (omega (arith, halves from .whole, at-fill .fill .kept .0)) in
-    (record { terms = from .pre .1 .0 .0; listing = from .pre .1 .0 .1; inside = omega (arith, halves from .levels-inside, size) }, from .pre .1 .1)
+    (record { terms = from .pre .1 .0 .0; listing = from .pre .1 .0 .1; earns = from .pre .0 .0; inside = omega (arith, halves from .levels-inside, size) }, from .pre .1 .1)
 
 refused-requires : tie.Need-refused-requires
 refused-requires c κs = search needs
@@ -75,8 +75,8 @@ returns c =
     let from = start at-fill in
     let a = from .args in
     let found = at-search .least-lower in (
-      none-found (a .severity .now) (a .opening) (a .chances .now) (a .target) (found .result .opening)
-          (found-opening (a .severity .now) (a .opening) (a .chances .now) (a .target) (found .result) (found .ensures .0)) (c .before .if1 .taken) (c .refused .result) (c .refused .ensures),
+      none-found (a .income) (a .severity .now) (a .opening) (a .chances .now) (a .target) (found .result .opening)
+          (found-opening (a .income) (a .severity .now) (a .opening) (a .chances .now) (a .target) (found .result) (found .ensures .0)) (c .before .if1 .taken) (c .refused .result) (c .refused .ensures),
       zero-still (length (a .workspace .now)) (half-of from) (omega (arith, halves from .whole)) (at-fill .fill .last .0) (found .last .0) (at-fill .fill .ensures) (found .ensures .1),
     )
 
@@ -109,7 +109,8 @@ upper-at-requires c κs =
     record {
       terms = from .pre .1 .0 .0;
       listing = from .pre .1 .0 .1;
-      inside = omega (arith, halves from .levels-inside, size, level-from (found .result .opening) (a .opening) (length (a .chances .now)) (else1 .if1 .left));
+      earns = from .pre .0 .0;
+      inside = omega (arith, halves from .levels-inside, size, level-from (a .income) (found .result .opening) (a .opening) (length (a .chances .now)) (else1 .if1 .left));
     }
 
 same-length-2 : tie.Need-same-length-2
@@ -125,9 +126,9 @@ returns-2 c =
     let a = from .args in
     let found = at-search .least-lower in
     let upper = worked .upper-at in (
-      one-found (a .severity .now) (a .opening) (a .chances .now) (a .target) (found .result .opening)
-          (found-opening (a .severity .now) (a .opening) (a .chances .now) (a .target) (found .result) (found .ensures .0)) (else1 .if1 .left) (found .result .lower) (upper .result)
-          (found-lower (a .severity .now) (a .opening) (a .chances .now) (a .target) (found .result) (found .ensures .0) (else1 .if1 .left)) (upper .ensures .0),
+      one-found (a .income) (a .severity .now) (a .opening) (a .chances .now) (a .target) (found .result .opening)
+          (found-opening (a .income) (a .severity .now) (a .opening) (a .chances .now) (a .target) (found .result) (found .ensures .0)) (else1 .if1 .left) (found .result .lower) (upper .result)
+          (found-lower (a .income) (a .severity .now) (a .opening) (a .chances .now) (a .target) (found .result) (found .ensures .0) (else1 .if1 .left)) (upper .ensures .0),
       zero-again (length (a .workspace .now)) (half-of from) (omega (arith, halves from .whole)) (at-fill .fill .last .0) (found .last .0) (at-fill .fill .ensures) (found .ensures .1)
           (halves from .whole) (found .kept .0) (upper .last .0) (upper .ensures .1),
     )

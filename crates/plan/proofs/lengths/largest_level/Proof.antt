@@ -1,19 +1,19 @@
--- `plan::lengths::largest_level` meets its contract: what it adds up is the definition, and fits as the largest level of any plan does.
+-- `plan::lengths::largest_level` meets its contract: what it adds up is the definition.
 use native.Mathlib.Omega.{arith}
-use Rattle.model.specs.Levels.{gain, largest-level}
-use Rattle.model.proofs.Facts.{head-facts}
+use Rattle.model.specs.Levels.{largest-level}
 use Rattle.plan.proofs.lengths.largest_level.Statement.{statement}
 use Rattle.plan.proofs.lengths.largest_level.Tie as tie
 
 mul-result : tie.Need-mul-result
-mul-result c = omega (arith, head-facts _ (c .before .pre))
+unfolding largest-level
+mul-result c = omega (arith, c .before .pre)
 
 add-result : tie.Need-add-result
-unfolding largest-level gain
-add-result c = omega (arith, head-facts _ (c .before .before .pre))
+unfolding largest-level
+add-result c = omega (arith, c .before .before .pre)
 
 returns : tie.Need-returns
-unfolding largest-level gain
+unfolding largest-level
 returns c = omega arith
 
 pub largest-level-spec : {M : Type 1} → statement M

@@ -6,7 +6,7 @@ use Rattle.plan.proofs.lengths.row_levels.Statement.{statement}
 use Rattle.plan.proofs.lengths.row_levels.Tie as tie
 
 largest-level-requires : tie.Need-largest-level-requires
-largest-level-requires c κs = search needs
+largest-level-requires c κs = omega (arith, head-facts _ (c .pre) .span-fits)
 
 add-result : tie.Need-add-result
 add-result c = omega (arith, c .largest-level .ensures, head-facts _ (c .before .pre) .span-fits)

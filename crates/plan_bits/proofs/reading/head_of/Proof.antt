@@ -18,9 +18,6 @@ field-requires-2 c κs = search needs
 cast-opening : tie.Need-cast-opening
 cast-opening c = search needs
 
-add-field : tie.Need-add-field
-add-field c = search needs
-
 field-requires-3 : tie.Need-field-requires-3
 unfolding head-bits
 field-requires-3 c κs = search needs
@@ -28,13 +25,21 @@ field-requires-3 c κs = search needs
 cast-sizes : tie.Need-cast-sizes
 cast-sizes c = search needs
 
+field-requires-4 : tie.Need-field-requires-4
+unfolding head-bits
+field-requires-4 c κs = search needs
+
+cast-income : tie.Need-cast-income
+cast-income c = search needs
+
 returns : tie.Need-returns
 unfolding head-of
 returns c =
     λ i. record {
-      months = c .before .before .field .ensures i;
-      opening = c .before .field2 .ensures i;
-      sizes = c .field3 .ensures i;
+      months = c .before .before .before .field .ensures i;
+      opening = c .before .before .field2 .ensures i;
+      sizes = c .before .field3 .ensures i;
+      income = c .field4 .ensures i;
     }
 
 pub head-of-spec : {M : Type 1} → statement M
@@ -45,7 +50,8 @@ head-of-spec =
     cast-months
     field-requires-2
     cast-opening
-    add-field
     field-requires-3
     cast-sizes
+    field-requires-4
+    cast-income
     returns)

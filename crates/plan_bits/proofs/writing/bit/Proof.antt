@@ -3,8 +3,8 @@ use Prim.Native.Nat.{_-_, _/_}
 use mathlib.Core.Path.{sym, _∙_}
 use native.Mathlib.Omega.{arith}
 use borrow.Author.Needs.{needs}
-use Rattle.model.specs.Format.{months-width, opening-width, sizes-width, number-width}
-use Rattle.plan_bits.proofs.PlanBits.{months-bit, opening-bit, sizes-bit, number-bit, no-bit}
+use Rattle.model.specs.Format.{months-width, opening-width, sizes-width, income-width, number-width}
+use Rattle.plan_bits.proofs.PlanBits.{months-bit, opening-bit, sizes-bit, income-bit, number-bit, no-bit}
 use Rattle.plan_bits.proofs.writing.bit.Statement.{statement}
 use Rattle.plan_bits.proofs.writing.bit.Tie as tie
 
@@ -50,28 +50,6 @@ returns-3 c =
     let opening = c .before .before in
     c .digit3 .ensures ∙ sym (sizes-bit _ _ _ (past-months opening .if1 .left) (opening .if2 .left) (c .before .if3 .taken))
 
-mul-digit : tie.Need-mul-digit
-mul-digit c = search needs
-
-shared-slice-read-digit : tie.Need-shared-slice-read-digit
-shared-slice-read-digit c = search needs
-
-abbrev start : tie.Else1 → tie.Start
-start c = c .before .before
-
-abbrev past-opening : tie.Else3 → tie.Else2
-past-opening c = c .before
-
-abbrev past-head : tie.After-shared-slice-known2 → tie.Else3
-past-head c = c .before .before
-
-cast-digit : tie.Need-cast-digit
-cast-digit c =
-    omega (
-      arith,
-      c .shared-slice-known2 .given ((start (past-months (past-opening (past-head c))) .args .at - months-width - opening-width - sizes-width) / number-width),
-    )
-
 sub-digit-7 : tie.Need-sub-digit-7
 sub-digit-7 c = search needs
 
@@ -81,16 +59,58 @@ sub-digit-8 c = search needs
 digit-requires-4 : tie.Need-digit-requires-4
 digit-requires-4 c κs = search needs
 
+abbrev past-opening : tie.Else3 → tie.Else2
+past-opening c = c .before
+
 returns-4 : tie.Need-returns-4
 returns-4 c =
-    let head = past-head (c .before) in
-    let opening = past-opening head in
-    c .digit4 .ensures ∙ sym (number-bit _ _ _ (past-months opening .if1 .left) (opening .if2 .left) (head .if3 .left))
+    let sizes = c .before .before in
+    let opening = past-opening sizes in
+    c .digit4 .ensures ∙ sym (income-bit _ _ _ (past-months opening .if1 .left) (opening .if2 .left) (sizes .if3 .left) (c .before .if4 .taken))
+
+mul-digit : tie.Need-mul-digit
+mul-digit c = search needs
+
+shared-slice-read-digit : tie.Need-shared-slice-read-digit
+shared-slice-read-digit c = search needs
+
+abbrev start : tie.Else1 → tie.Start
+start c = c .before .before
+
+abbrev past-sizes : tie.Else4 → tie.Else3
+past-sizes c = c .before
+
+abbrev past-head : tie.After-shared-slice-known2 → tie.Else4
+past-head c = c .before .before
+
+cast-digit : tie.Need-cast-digit
+cast-digit c =
+    omega (
+      arith,
+      c .shared-slice-known2 .given ((start (past-months (past-opening (past-sizes (past-head c)))) .args .at - months-width - opening-width - sizes-width - income-width) / number-width),
+    )
+
+sub-digit-9 : tie.Need-sub-digit-9
+sub-digit-9 c = search needs
+
+sub-digit-10 : tie.Need-sub-digit-10
+sub-digit-10 c = search needs
+
+digit-requires-5 : tie.Need-digit-requires-5
+digit-requires-5 c κs = search needs
 
 returns-5 : tie.Need-returns-5
 returns-5 c =
-    let opening = past-opening (c .before) in
-    sym (no-bit _ _ _ (past-months opening .if1 .left) (opening .if2 .left) (c .before .if3 .left) (c .if4 .left))
+    let head = past-head (c .before) in
+    let sizes = past-sizes head in
+    let opening = past-opening sizes in
+    c .digit5 .ensures ∙ sym (number-bit _ _ _ (past-months opening .if1 .left) (opening .if2 .left) (sizes .if3 .left) (head .if4 .left))
+
+returns-6 : tie.Need-returns-6
+returns-6 c =
+    let sizes = past-sizes (c .before) in
+    let opening = past-opening sizes in
+    sym (no-bit _ _ _ (past-months opening .if1 .left) (opening .if2 .left) (sizes .if3 .left) (c .before .if4 .left) (c .if5 .left))
 
 pub bit-spec : {M : Type 1} → statement M
 bit-spec =
@@ -108,11 +128,15 @@ bit-spec =
     sub-digit-6
     digit-requires-3
     returns-3
-    mul-digit
-    shared-slice-read-digit
-    cast-digit
     sub-digit-7
     sub-digit-8
     digit-requires-4
     returns-4
-    returns-5)
+    mul-digit
+    shared-slice-read-digit
+    cast-digit
+    sub-digit-9
+    sub-digit-10
+    digit-requires-5
+    returns-5
+    returns-6)

@@ -27,7 +27,7 @@ unfolding workspace-needed
 needed-is c =
     let a = c .before .before .before .args .ask in
     let width = c .before .row-levels .result in
-    ap (λ n. 2 * width * n) (ap (λ s. s .rows) (c .shape-of .ensures) ∙ shape-rows (a .question) width)
+    ap (λ n. 2 * width * n) (ap (λ s. s .rows) (c .shape-of .ensures) ∙ shape-rows (a .question) width (a .head .income))
     ∙ ap (λ w. 2 * w * rows-needed (a .question)) (c .before .row-levels .ensures)
 
 fits : (c : tie.After-shape-of) → workspace-needed (c .before .before .before .args .ask) ≤ workspace-room

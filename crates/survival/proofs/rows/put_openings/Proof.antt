@@ -7,7 +7,7 @@ use borrow.Author.Needs.{needs}
 use lib.ListN.{length, replicate}
 use Rattle.model.specs.declared.Rounding.{Rounding}
 use Rattle.model.specs.declared.Rounding.the-variants.{Down, Up}
-use Rattle.model.specs.Levels.{gain, largest-level}
+use Rattle.model.specs.Levels.{largest-level}
 use Rattle.model.specs.MonthRule.{all-placed}
 use Rattle.model.specs.Refusal.{outside}
 use Rattle.claims.specs.Values.{from-top}
@@ -21,19 +21,19 @@ use Rattle.survival.proofs.rows.put_openings.Tie as tie
 
 -- the halves of the workspace, from the start of the function
 abbrev half-of : tie.Start → ℕ
-half-of c = c .args .opening + 1 * length (c .args .chances .now) + 1
+half-of c = c .args .opening + c .args .income * length (c .args .chances .now) + 1
 
 record Halves (half opening levels room : ℕ) : Type 0 where
   opening-inside : opening < half
   levels-inside : levels < half
   whole : room ≡ 2 * half
 
-halves : (c : tie.Start) → let a = c .args in Halves (half-of c) (a .opening) (largest-level (a .opening) (length (a .chances .now))) (length (a .workspace .now))
-unfolding largest-level gain
-halves c = record { opening-inside = omega arith; levels-inside = omega arith; whole = c .pre .1 .0 }
+halves : (c : tie.Start) → let a = c .args in Halves (half-of c) (a .opening) (largest-level (a .income) (a .opening) (length (a .chances .now))) (length (a .workspace .now))
+unfolding largest-level
+halves c = record { opening-inside = omega arith; levels-inside = omega arith; whole = c .pre .1 .0 .1 }
 
 mul-half : tie.Need-mul-half
-mul-half c = search needs
+mul-half c = omega (arith, halves (c .before .before .before .before) .whole)
 
 add-half : tie.Need-add-half
 add-half c = omega (arith, halves (c .before .before .before .before) .whole)
@@ -61,8 +61,8 @@ walked c = c .before .before .before .before .before
 abbrev stored : tie.After-fill → tie.After-put-pairs
 stored c = c .before .before .before .before
 
-one : (c : tie.After-shape-of) → OneRow (c .shape-of .result) (half-of (start c))
-one c = one-row (c .shape-of .result) (half-of (start c)) (c .shape-of .ensures)
+one : (c : tie.After-shape-of) → OneRow (c .shape-of .result) (half-of (start c)) (start c .args .income)
+one c = one-row (c .shape-of .result) (half-of (start c)) (start c .args .income) (c .shape-of .ensures)
 
 last-halves-requires : tie.Need-last-halves-requires
 last-halves-requires c κs =
@@ -75,8 +75,8 @@ halves-back-requires c κs =
     let shape = shaped last in
     let from = start shape in
     let rows : HalvesIn (shape .shape-of .result) (last .last-halves .last .0) =
-    record { some = one shape .some; size = last .last-halves .kept .0 ∙ halves from .whole ∙ ap (λ n. 2 * n) (sym (one shape .size)); parts = last .last-halves .ensures .1 .1 } in
-    (rows, (omega (arith, halves from .levels-inside, one shape .wide), from .pre .1 .1))
+    record { some = one shape .some; income-some = rw (one shape .earns) (from .pre .1 .0 .0); size = last .last-halves .kept .0 ∙ halves from .whole ∙ ap (λ n. 2 * n) (sym (one shape .size)); parts = last .last-halves .ensures .1 .1 } in
+    (rows, (rw (one shape .earns) (omega (arith, halves from .levels-inside, one shape .wide)), from .pre .1 .1))
 
 -- the workspace after the walk is as long as it was
 still : (c : tie.After-halves-back) → length (c .halves-back .last .0) ≡ 2 * half-of (start (shaped (placed c)))
@@ -102,15 +102,15 @@ half-is :
     (c : tie.After-halves-back) →
     let shape = shaped (placed c) in
     let a = start shape .args in
-    let top = largest-level (a .opening) (length (a .chances .now)) in
+    let top = largest-level (a .income) (a .opening) (length (a .chances .now)) in
     (round : Rounding) (last row : List ℕ) →
     ((k : ℕ) → k < shape .shape-of .result .rows → (s : ℕ) → values-in (shape .shape-of .result) top last k s ≡ all-placed k s) →
     TakenBack round (a .severity .now) (shape .shape-of .result) (a .opening) (a .chances .now) last row →
-    (v : ℕ) → v < a .opening + 1 → from-top (a .opening) row v ≡ survival-row round (a .severity .now) (a .chances .now) v
+    (v : ℕ) → v < a .opening + 1 → from-top (a .opening) row v ≡ survival-row round (a .income) (a .severity .now) (a .chances .now) v
 half-is c round last row all-S back v l =
     let shape = shaped (placed c) in
     let a = start shape .args in
-    back-is round (a .severity .now) (a .chances .now) (half-of (start shape)) (a .opening) (shape .shape-of .result) last row (shape .shape-of .ensures)
+    back-is round (a .income) (a .severity .now) (a .chances .now) (half-of (start shape)) (a .opening) (shape .shape-of .result) last row (shape .shape-of .ensures)
     (halves (start shape) .levels-inside) all-S back v (omega arith)
 
 returns : tie.Need-returns
@@ -121,7 +121,7 @@ returns c =
     let last = placed back .last-halves in
     let shape = shaped (placed back) in
     let a = start shape .args in
-    let top = largest-level (a .opening) (length (a .chances .now)) in
+    let top = largest-level (a .income) (a .opening) (length (a .chances .now)) in
     let inside : top < shape .shape-of .result .width = omega (arith, halves (start shape) .levels-inside, one shape .wide) in (
       pairs .put-pairs .ensures
           ∙ pairs-agree (a .opening + 1) _ _ _ _

@@ -30,15 +30,15 @@ given-up c = tested (c .before .before .before)
 abbrev walked : tie.Else1 → tie.After-lower-back
 walked c = tested (c .before)
 
-walk : (c : tie.Start) → Walk (length (c .args .row .now)) (c .args .opening) (c .args .chances .now) (c .args .severity .now) (c .args .sizes .now) (c .args .dense)
+walk : (c : tie.Start) → Walk (length (c .args .row .now)) (c .args .income) (c .args .opening) (c .args .chances .now) (c .args .severity .now) (c .args .sizes .now) (c .args .dense)
 walk c = c .pre .0
 
 -- the opening lies within the row
 inside : (c : tie.Start) → c .args .opening < length (c .args .row .now)
-inside c = let a = c .args in omega (arith, walk c .inside, level-from (a .opening) (a .opening) (length (a .chances .now)) (le-refl (a .opening)))
+inside c = let a = c .args in omega (arith, walk c .inside, level-from (a .income) (a .opening) (a .opening) (length (a .chances .now)) (le-refl (a .opening)))
 
-add-t16 : tie.Need-add-t16
-add-t16 c = omega (arith, inside (start (given-up (c .before .before))))
+add-t17 : tie.Need-add-t17
+add-t17 c = omega (arith, inside (start (given-up (c .before .before))))
 
 same-length : tie.Need-same-length
 same-length c = search needs
@@ -50,8 +50,8 @@ returns c =
     let from = start at-walk in
     let a = from .args in
     let walk-back = at-walk .lower-back in (
-      found-none (a .severity .now) (a .opening) (a .chances .now) (a .target) _ refl
-          (none-reached (a .severity .now) (a .opening) (a .chances .now) (a .target) (walk-back .result) (walk from .terms) (from .pre .1 .0) (cleared .before .before .if1 .taken)
+      found-none (a .income) (a .severity .now) (a .opening) (a .chances .now) (a .target) _ refl
+          (none-reached (a .income) (a .severity .now) (a .opening) (a .chances .now) (a .target) (walk-back .result) (walk from .terms) (from .pre .1 .0) (cleared .before .before .if1 .taken)
           (walk-back .ensures .0)),
       cleared .fill .ensures ∙ ap (λ n. replicate n 0) (walk-back .kept .0),
     )
@@ -68,7 +68,7 @@ found-in-requires c κs =
     let a = from .args in
     let walk-back = at-walk .lower-back in (
       omega (arith, inside from, walk-back .kept .0),
-      some-opening (a .severity .now) (a .opening) (a .chances .now) (a .target) (length (a .row .now)) (walk-back .result) (walk-back .last .0) (ended else1) (walk from .inside)
+      some-opening (a .income) (a .severity .now) (a .opening) (a .chances .now) (a .target) (length (a .row .now)) (walk-back .result) (walk-back .last .0) (ended else1) (walk from .inside)
           (walk-back .ensures .0) (walk-back .ensures .1),
     )
 
@@ -88,12 +88,12 @@ returns-2 c =
     let a = from .args in
     let walk-back = at-walk .lower-back in
     let least = found .found-in in (
-      found-some (a .severity .now) (a .opening) (a .chances .now) (a .target) (least .result)
+      found-some (a .income) (a .severity .now) (a .opening) (a .chances .now) (a .target) (least .result)
           (least .ensures .0
-          ∙ least-is-same (a .severity .now) (a .opening) (a .chances .now) (a .target) (length (a .row .now)) (walk-back .result) (walk-back .last .0) (ended else1) (walk from .inside)
+          ∙ least-is-same (a .income) (a .severity .now) (a .opening) (a .chances .now) (a .target) (length (a .row .now)) (walk-back .result) (walk-back .last .0) (ended else1) (walk from .inside)
           (walk-back .ensures .0) (walk-back .ensures .1))
           (least .ensures .1 .0
-          ∙ openings-are (a .severity .now) (a .opening) (a .chances .now) (a .target) (length (a .row .now)) (walk-back .result) (walk-back .last .0) (ended else1) (walk from .inside)
+          ∙ openings-are (a .income) (a .severity .now) (a .opening) (a .chances .now) (a .target) (length (a .row .now)) (walk-back .result) (walk-back .last .0) (ended else1) (walk from .inside)
           (walk-back .ensures .0) (walk-back .ensures .1) (least .result .opening) (least .ensures .1 .1))
           (least .ensures .1 .1),
       cleared .fill2 .ensures ∙ ap (λ n. replicate n 0) (walk-back .kept .0),
@@ -105,7 +105,7 @@ least-lower-spec =
     (tie.spec
     lower-back-requires
     fill-requires
-    add-t16
+    add-t17
     same-length
     returns
     found-in-requires

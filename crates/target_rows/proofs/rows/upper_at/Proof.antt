@@ -34,7 +34,7 @@ filled c = c .before .before .before .before
 abbrev walked : tie.After-value-at → tie.After-all-months-back
 walked c = c .before .before .before .before
 
-walk : (c : tie.Start) → Walk (length (c .args .row .now)) (c .args .opening) (c .args .chances .now) (c .args .severity .now) (c .args .sizes .now) (c .args .dense)
+walk : (c : tie.Start) → Walk (length (c .args .row .now)) (c .args .income) (c .args .opening) (c .args .chances .now) (c .args .severity .now) (c .args .sizes .now) (c .args .dense)
 walk c = c .pre
 
 last-row : (c : tie.After-fill) → c .fill .last .0 ≡ replicate (length (start (shaped c) .args .row .now)) S
@@ -47,8 +47,8 @@ all-months-back-requires c κs =
     let from = start (shaped at-fill) in
     let shape = shaped at-fill .shape-of in
     let width = length (from .args .row .now) in (
-      rows-in (shape .result) width (at-fill .fill .last .0) (shape .ensures) (at-fill .fill .kept .0) (rw (last-row at-fill) (parts-replicate width S (le-refl S))),
-      (width-of (shape .result) width _ (shape .ensures) (walk from .inside), (walk from .terms, walk from .listing)),
+      rows-in (shape .result) width (from .args .income) (at-fill .fill .last .0) (shape .ensures) (walk from .earns) (at-fill .fill .kept .0) (rw (last-row at-fill) (parts-replicate width S (le-refl S))),
+      (width-of (shape .result) width (from .args .income) (from .args .opening) _ (shape .ensures) (walk from .inside), (walk from .terms, walk from .listing)),
     )
 
 value-at-requires : tie.Need-value-at-requires
@@ -56,7 +56,7 @@ value-at-requires c κs =
     let months = c .before .before .before in
     let from = start (shaped (filled months)) in
     let a = from .args in
-    (le-refl (a .opening), omega (arith, walk from .inside, level-from (a .opening) (a .opening) (length (a .chances .now)) (le-refl (a .opening)), months .all-months-back .kept .0, filled months .fill .kept .0))
+    (le-refl (a .opening), omega (arith, walk from .inside, level-from (a .income) (a .opening) (a .opening) (length (a .chances .now)) (le-refl (a .opening)), months .all-months-back .kept .0, filled months .fill .kept .0))
 
 fill-requires-2 : tie.Need-fill-requires-2
 fill-requires-2 c κs = search needs
@@ -74,7 +74,7 @@ returns c =
     let a = from .args in
     let width = length (a .row .now) in (
       read .value-at .ensures
-          ∙ back-of Up (a .severity .now) (a .chances .now) width (a .opening) (shaped at-fill .shape-of .result) (at-fill .fill .last .0) (months .all-months-back .last .0)
+          ∙ back-of Up (a .income) (a .severity .now) (a .chances .now) width (a .opening) (shaped at-fill .shape-of .result) (at-fill .fill .last .0) (months .all-months-back .last .0)
           (shaped at-fill .shape-of .ensures) (last-row at-fill) (walk from .inside) (months .all-months-back .ensures .0) (a .opening) (le-refl (a .opening)),
       cleared .fill2 .ensures ∙ ap (λ n. replicate n 0) (months .all-months-back .kept .0 ∙ at-fill .fill .kept .0),
     )

@@ -18,16 +18,19 @@ opening c = c .before .before
 abbrev sizes : tie.After-word4 → tie.After-word3
 sizes c = c .before .before
 
-abbrev number : tie.After-number → tie.After-word4
+abbrev income : tie.After-word5 → tie.After-word4
+income c = c .before .before
+
+abbrev number : tie.After-number → tie.After-word5
 number c = c .before .before
 
-abbrev target : tie.After-word5 → tie.After-number
+abbrev target : tie.After-word6 → tie.After-number
 target c = c .before .before
 
-abbrev room : tie.After-number2 → tie.After-word5
+abbrev room : tie.After-number2 → tie.After-word6
 room c = c .before .before
 
-abbrev fill : tie.After-word6 → tie.After-number2
+abbrev fill : tie.After-word7 → tie.After-number2
 fill c = c .before .before .before
 
 element-copy-out-t4 : tie.Need-element-copy-out-t4
@@ -54,19 +57,23 @@ number-requires c κs = search needs
 number-requires-2 : tie.Need-number-requires-2
 number-requires-2 c κs = search needs
 
-element-copy-out-t29 : tie.Need-element-copy-out-t29
-element-copy-out-t29 c = search needs
+element-copy-out-t32 : tie.Need-element-copy-out-t32
+element-copy-out-t32 c = search needs
 
 word-requires-6 : tie.Need-word-requires-6
 word-requires-6 c κs = search needs
 
+word-requires-7 : tie.Need-word-requires-7
+word-requires-7 c κs = search needs
+
 returns : tie.Need-returns
 unfolding record-of
 returns c =
-    let last = c .word6 in
+    let last = c .word7 in
     let at-room = room (fill c) in
     let at-target = target at-room in
-    let at-sizes = sizes (number at-target) in
+    let at-number = number at-target in
+    let at-sizes = sizes (income at-number) in
     let at-months = months (opening at-sizes) in
     λ i. record {
       kind = getD (start at-months .args .words .now) 7 0;
@@ -75,12 +82,13 @@ returns c =
             months = at-months .word .ensures i;
             opening = opening at-sizes .word2 .ensures i;
             sizes = at-sizes .word3 .ensures i;
+            income = income at-number .word4 .ensures i;
           };
-      number = number at-target .word4 .ensures i;
+      number = at-number .word5 .ensures i;
       target = at-target .number .ensures i;
-      room = at-room .word5 .ensures i;
+      room = at-room .word6 .ensures i;
       fill = fill c .number2 .ensures i;
-      «fill_byte» = getD (start at-months .args .words .now) 55 0;
+      «fill_byte» = getD (start at-months .args .words .now) 63 0;
       length = last .ensures i;
     }
 
@@ -93,9 +101,10 @@ decode-spec =
     word-requires-2
     word-requires-3
     word-requires-4
-    number-requires
     word-requires-5
-    number-requires-2
-    element-copy-out-t29
+    number-requires
     word-requires-6
+    number-requires-2
+    element-copy-out-t32
+    word-requires-7
     returns)
