@@ -532,7 +532,9 @@ REFUSED_OLD = [
 
 
 def check_old_plan(tally, plan):
+    """No old plan is taken for a new one: moved up by 4 bits, its weights never add to S."""
     tally.check("old plans, renewed", renewed(write_old(*plan)) == (0, write_bytes(*plan)), plan)
+    tally.check("old plans, read as new ones", refusal(read_checks(write_old(*plan), math.inf)) != 0, plan)
 
 
 def check_old_plans(tally):
