@@ -3,14 +3,16 @@
 //! and a target: plan bytes on standard input, the least opening that reaches it and its bounds on standard output. With the argument `openings`:
 //! plan bytes on standard input, the bounds of survival at each opening from 0 to the plan's on standard output. With the argument `moves`: the
 //! bytes of two plans that differ only in their chances, one after the other, on standard input, how far each line of their reports moves on
-//! standard output.
+//! standard output. With the argument `tree` and a question (`survive` or nothing, or `both`, `high` or `low` and its number): bytes of a small plan
+//! on standard input, its tree on standard output.
 //!
 //!   rustc -O docs/src/baseline.rs -o OUT
 //!
 //! Written from these documents alone, not from the engine or its definitions. It has the rows and the order of work of these documents: two rows
 //! of u + c × n + 1 numbers for an answer, k + 1 times that for both k, each replaced in place month by month, from the highest level down, and
 //! the claim sum from the largest size down. The least opening takes one walk over the lower row for all openings and, for the one found, one
-//! over the upper row; all openings take one walk over each row.
+//! over the upper row; all openings take one walk over each row. A tree is read off the rows of all its months.
+use std::collections::BTreeSet;
 use std::fmt::{Display, Write as _};
 use std::io::{self, Read, Write as _};
 use std::{env, iter};
@@ -22,6 +24,7 @@ const SIZES: usize = 320;
 const INCOME: usize = 8;
 const LARGEST_LEVEL: usize = 320;
 const CLAIMS: usize = 24;
+const ASKED_LEVEL: usize = 320;
 
 /// The widths in bits of n, u, m and c, and of each number of the row.
 const HEAD_BITS: [usize; 4] = [7, 8, 9, 4];
@@ -348,7 +351,7 @@ fn least_opening(plan: Plan, target: u64) -> Result<(usize, [u32; 2]), u32> {
 }
 
 /// The number of a word of digits; every one above S is taken as S + 1.
-fn target_of(word: &str) -> Option<u64> {
+fn number_of(word: &str) -> Option<u64> {
     let digits = word.chars().map(|digit| digit.to_digit(10).map(u64::from));
     let number = digits.reduce(|number, digit| Some((10 * number? + digit?).min(S + 1)));
     number.flatten()
@@ -368,6 +371,135 @@ fn openings_text(plan: &Plan) -> String {
         put(&mut text, "opening", Some(opening), [lower, upper]);
     }
     text
+}
+
+// ---- Trees of small plans
+
+const SMALL_MONTHS: usize = 6;
+const SMALL_OPENING: usize = 6;
+const SMALL_INCOME: usize = 1;
+
+fn question_of(words: &[String]) -> Option<Question> {
+    match words {
+        [] => Some(Question::Survive),
+        [word] => (word == "survive").then_some(Question::Survive),
+        [word, number] => {
+            let number = number_of(number)? as usize;
+            match word.as_str() {
+                "both" => Some(Question::Both(number)),
+                "high" => Some(Question::High(number)),
+                "low" => Some(Question::Low(number)),
+                _ => None,
+            }
+        }
+        _ => None,
+    }
+}
+
+fn check_small(plan: &Plan, question: Question) -> Result<(), u32> {
+    let asked = match question {
+        Question::Survive => true,
+        Question::Both(k) => k <= CLAIMS,
+        Question::High(level) | Question::Low(level) => level <= ASKED_LEVEL,
+    };
+    let small = plan.chances.len() <= SMALL_MONTHS && plan.opening <= SMALL_OPENING && plan.income == SMALL_INCOME;
+    if asked && small { Ok(()) } else { Err(10) }
+}
+
+/// The rows at the end of each month, of which the first is month 0, in one rounding.
+fn rows_by_month(plan: &Plan, question: Question, add: u64) -> Vec<Vec<u32>> {
+    let more = if let Question::Both(k) = question { k } else { 0 };
+    let mut rows = vec![S as u32; plan.levels()];
+    rows.resize((1 + more) * plan.levels(), 0);
+    let mut by_month = vec![rows.clone()];
+    for t in (1..=plan.chances.len()).rev() {
+        month_of(plan, question, t, add, &mut rows);
+        by_month.push(rows.clone());
+    }
+    by_month.reverse();
+    by_month
+}
+
+/// Where a month can end: a level, and how many claims are left to place.
+type End = (usize, usize);
+
+struct Tree {
+    plan: Plan,
+    question: Question,
+    /// In each rounding the rows by month.
+    rows: [Vec<Vec<u32>>; 2],
+}
+
+impl Tree {
+    fn new(plan: Plan, question: Question) -> Tree {
+        let rows = ROUNDINGS.map(|add| rows_by_month(&plan, question, add));
+        Tree { plan, question, rows }
+    }
+
+    /// Whether the question forbids this level at the end of month t; month 0 is the opening.
+    fn stops(&self, t: usize, level: usize) -> bool {
+        match self.question {
+            Question::High(most) => level > most,
+            Question::Low(least) => t > 0 && level < least,
+            _ => false,
+        }
+    }
+
+    fn described(&self, t: usize, (level, left): End) -> String {
+        let at = left * self.plan.levels() + level;
+        let [lower, upper] = [&self.rows[0], &self.rows[1]].map(|by_month| by_month[t][at]);
+        match self.question {
+            Question::Both(_) => format!("level {level} left {left} {lower} {upper}"),
+            _ if self.stops(t, level) => format!("level {level} forbidden 0 0"),
+            _ => format!("level {level} {lower} {upper}"),
+        }
+    }
+
+    /// Where a claim of size x leads, if one is left to place.
+    fn claimed(&self, (level, left): End, x: usize) -> Option<End> {
+        let fewer = if let Question::Both(_) = self.question { left.checked_sub(1)? } else { left };
+        Some((level + 1 - x, fewer))
+    }
+
+    /// What month t + 1 brings after this end of month t; the ends that it can come to are added to those of other ends. What the sizes up to the
+    /// level leave of S ruins.
+    fn put_month(&self, text: &mut String, t: usize, end: End, later: &mut BTreeSet<End>) {
+        let (level, left) = end;
+        let (chance, quiet) = (u64::from(self.plan.chances[t]), (level + 1, left));
+        writeln!(text, "  chance {chance}\n  no claim {}", self.described(t + 1, quiet)).unwrap();
+        later.extend((chance < S).then_some(quiet));
+        let mut ruining = S;
+        for (x, &weight) in (1..=level).zip(&self.plan.weights).filter(|&(_, &weight)| weight > 0) {
+            let claimed = self.claimed(end, x);
+            let place = claimed.map_or("none left 0 0".to_string(), |end| self.described(t + 1, end));
+            writeln!(text, "  claim {x} weight {weight} {place}").unwrap();
+            later.extend(claimed.filter(|_| chance > 0));
+            ruining -= u64::from(weight);
+        }
+        writeln!(text, "  ruin weight {ruining}").unwrap();
+    }
+
+    /// Month by month, from the highest end down.
+    fn text(&self) -> String {
+        let asked = if let Question::Both(k) = self.question { k } else { 0 };
+        let (mut text, mut ends) = (String::new(), BTreeSet::from([(self.plan.opening, asked)]));
+        for t in 0..=self.plan.chances.len() {
+            let mut later = BTreeSet::new();
+            for &end in ends.iter().rev() {
+                writeln!(text, "month {t} {}", self.described(t, end)).unwrap();
+                if t < self.plan.chances.len() && !self.stops(t, end.0) {
+                    self.put_month(&mut text, t, end, &mut later);
+                }
+            }
+            ends = later;
+        }
+        text
+    }
+}
+
+fn tree_text(plan: Plan, question: Question) -> Result<String, u32> {
+    check_small(&plan, question)?;
+    Ok(Tree::new(plan, question).text())
 }
 
 // ---- The reserve report
@@ -456,12 +588,16 @@ fn main() -> io::Result<()> {
             Ok((head, row)) => io::stdout().write_all(&write(head, &row)),
             Err(number) => writeln!(io::stderr(), "refused {number}"),
         },
-        Some("least") => match words.next().as_deref().and_then(target_of) {
+        Some("least") => match words.next().as_deref().and_then(number_of) {
             Some(target) => print(read(&bytes).and_then(|plan| least_line(plan, target))),
             None => writeln!(io::stderr(), "a target is a whole number"),
         },
         Some("openings") => print(read(&bytes).map(|plan| openings_text(&plan))),
         Some("moves") => print(Ok(moves_text(&bytes))),
+        Some("tree") => match question_of(&words.collect::<Vec<String>>()) {
+            Some(question) => print(read(&bytes).and_then(|plan| tree_text(plan, question))),
+            None => writeln!(io::stderr(), "a question is survive, both, high or low, the last three with a whole number"),
+        },
         _ => print(read(&bytes).map(|plan| report(&plan))),
     }
 }

@@ -1,15 +1,16 @@
-"""The inputs of the test programs `vectors` and `reports`: both sides of each limit, worked out from the limits of rules.py, and random plans."""
+"""The inputs of the test programs `vectors`, `reports` and `trees`: both sides of each limit, worked out from the limits of rules.py, and random
+plans."""
 import itertools
 import random
 from collections import namedtuple
 
 from old_plans import write_old
-from plans import EXAMPLE, EXAMPLE_BYTES, ONE_SIZE, WORKED, changed, flat, flipped, gapped, geometric, lasting_plan, long_plans, questions
-from plans import some_chance, some_plan, split, timed_plans
+from plans import EXAMPLE, EXAMPLE_BYTES, ONE_SIZE, TEN_SIZES, WORKED, changed, flat, flipped, gapped, geometric, lasting_plan, long_plans
+from plans import questions, some_chance, some_plan, split, timed_plans
 from records import BOUNDS, FULL_NUMBER, Calls
-from rules import CLAIMS, HEAD_BYTES, INCOME, LARGEST, LEVEL, MONTHS, MOST_ASKED, NO_HEAD, NUMBER_BITS, OPENING, SIZES, SPAN, SURVIVE, WIDTHS, Head
-from rules import Question, S, all_months, all_openings, bit_length, byte_length, down, month_rule, opened, places_needed, plan_checks, plan_of
-from rules import refusal, row_length, workspace_needed, write_bytes
+from rules import CLAIMS, HEAD_BYTES, INCOME, LARGEST, LEVEL, MONTHS, MOST_ASKED, NO_HEAD, NUMBER_BITS, OPENING, SIZES, SMALL_INCOME, SMALL_MONTHS
+from rules import SMALL_OPENING, SPAN, SURVIVE, WIDTHS, Head, Question, S, all_months, all_openings, bit_length, byte_length, down, month_rule
+from rules import opened, places_needed, plan_checks, plan_of, refusal, row_length, workspace_needed, write_bytes
 
 FULL = 2**64 - 1  # the largest number of a head or a question
 WIDEST = Head(*(2**width - 1 for width in WIDTHS))  # what a head's fields can say
@@ -443,6 +444,102 @@ def long_openings(rng):
     yield from timed_plans().values()
 
 
+# ---- The engine without rows, on small plans
+
+LARGEST_SMALL = Head(SMALL_MONTHS, SMALL_OPENING, SIZES)
+
+
+def small_tables(m, with_tail):
+    """Weights and over: all on the first size, all on the last, thirds, next to nothing on the first; where over may be above 0, something or all
+    on it."""
+    yield [S] + [0] * m
+    if m > 1:
+        yield [0] * (m - 1) + [S, 0]
+        yield [S // 3] * (m - 1) + [S - (m - 1) * (S // 3), 0]
+        yield [1] + [0] * (m - 2) + [S - 1, 0]
+    if with_tail:
+        yield geometric(m)
+        yield [0] * m + [S]
+
+
+def small_family():
+    """Every head of few months, openings and sizes, each with two tables; these and the chances are taken in turn."""
+    chances = itertools.cycle((S // 2, 0, S // 3, S, 1, S - 1, S // 5))
+    for n, u, m in itertools.product(range(4), range(4), range(1, 4)):
+        tables = itertools.cycle(small_tables(m, m + 1 >= u + n))
+        for table in itertools.islice(tables, 2 * (n + u), 2 * (n + u) + 2):
+            yield Head(n, u, m), [*itertools.islice(chances, n), *table]
+
+
+def small_limits():
+    """At each limit of a small plan and past it, and with the most sizes."""
+    n, u = SMALL_MONTHS, SMALL_OPENING
+    for head in ((n, u, 3), (n + 1, u, 3), (n, u + 1, 3), (n + 1, u + 1, 3), (0, u, 3), (0, u + 1, 3), (n, 0, 3), (n + 1, 0, 3)):
+        yield flat(*head)
+    yield from (flat(n, u, 3, c) for c in (0, *SEVERAL, INCOME + 1))
+    yield from (flat(n, u, m) for m in (1, SIZES, SIZES + 1))
+    yield from (flat(n, u, u + n - 1, tail=1), flat(n, u, u + n - 2, tail=1), flat(n + 1, u, u + n, tail=1))
+    yield from (flat(0, 0, 1, 2), flat(MONTHS, 0, 3), flat(0, OPENING, 3), flat(MONTHS, OPENING, 3))
+
+
+def small_numbers():
+    """Numbers around the limits of a question, and some that are within them where only their last bits are looked at."""
+    numbers = 0, CLAIMS, CLAIMS + 1, 2**8, LEVEL, LEVEL + 1, 2**32, 2**32 + 1, FULL
+    for plan, word, number in itertools.product((BRIEF, flat(0, 0, 1)), ("both", "high", "low"), numbers):
+        yield Ask(*plan, Question(word, number))
+
+
+def one_month_more(ask):
+    """Than a small plan may have, with a row as long as the head asks."""
+    n = ask.head.months
+    more = [S // 2] * (SMALL_MONTHS + 1 - n)
+    return ask._replace(head=ask.head._replace(months=SMALL_MONTHS + 1), row=ask.row[:n] + more + ask.row[n:])
+
+
+# What is only too large for the engine without rows, which leaves the plan accepted.
+TOO_LARGE = [
+    one_month_more,
+    lambda ask: ask._replace(head=ask.head._replace(opening=SMALL_OPENING + 1)),
+    lambda ask: ask._replace(head=ask.head._replace(income=SMALL_INCOME + 1)),
+]
+
+
+def small_faults():
+    """10 of every kind, for the question and for the plan, alone, in pairs and with each number of the plan, of which the earlier one counts; these
+    in pairs too."""
+    asked = Question("both", CLAIMS + 1), Question("high", LEVEL + 1), Question("low", LEVEL + 1)
+    for question in (SURVIVE, Question("both", 1), Question("high", 3), Question("low", 2)):
+        whole = Ask(*BRIEF, question)
+        for large, fault in itertools.product(TOO_LARGE, PLAN_FAULTS.values()):
+            yield fault(large(whole))
+        yield from (one(other(whole)) for one, other in itertools.combinations_with_replacement(TOO_LARGE, 2))
+    whole = Ask(*BRIEF, SURVIVE)
+    for question in map(asking, asked):
+        yield from (question(fault(whole)) for fault in (*TOO_LARGE, *PLAN_FAULTS.values()))
+    yield from (one(other(whole)) for one, other in itertools.combinations_with_replacement(PLAN_FAULTS.values(), 2))
+    yield from wide_fault_pairs(Ask(*WIDE, SURVIVE), asking(asked[0]))
+
+
+def plain_edges():
+    """Heads, rows and questions: the funds worked by hand, every edge, and plans whose bounds rounding twice a month would change."""
+    yield from (one[:3] for one in WORKED)
+    yield from ((*plan, question) for plan in small_family() for question in questions(plan[0]))
+    yield from ((*plan, Question("both", 1)) for plan in itertools.chain(head_edges(), row_edges(), tail_edges()))
+    asked = SURVIVE, Question("both", 1), Question("high", 8), Question("low", 2)
+    yield from ((*plan, question) for plan, question in itertools.product(small_limits(), asked))
+    yield from (ask[:3] for ask in itertools.chain(small_numbers(), small_faults()))
+    yield from ((*plan, SURVIVE) for plan in rounding_plans() if plan[0].months <= SMALL_MONTHS)
+
+
+def largest_small_plans(rng):
+    """As many months, as high an opening and as many sizes as there can be, with no size empty and with ten filled; over above 0 in the first."""
+    shares = dict(zip(TEN_SIZES, split(rng, len(TEN_SIZES), 0)))
+    ten_filled = [shares.get(x, 0) for x in range(1, SIZES + 1)] + [0]
+    mixed = [S // 3, S - 1, 0, rng.randrange(S), 1, S]
+    for chances, table in itertools.product(([0] * 6, [S] * 6, mixed), (split(rng, SIZES + 1, 0), ten_filled)):
+        yield LARGEST_SMALL, chances + table
+
+
 # ---- Plan bytes
 
 
@@ -667,6 +764,18 @@ def add_incomes(calls, rng):
         add_income(calls, rng, c)
 
 
+def add_plain(calls, rng):
+    """The engine without rows; beside it the main engine, on the largest plans that both take and on random ones."""
+    for edge in plain_edges():
+        calls.plain(*edge)
+    random_ones = (some_plan(rng, rng.randint(4, 6), rng.randrange(7), rng.randrange(1, 20)) for _ in range(4))
+    for head, row in itertools.chain(largest_small_plans(rng), random_ones):
+        for question in questions(head):
+            calls.plain(head, row, question)
+            if question.number % 3 == 0:
+                calls.ask(head, row, question)
+
+
 def all_calls():
     calls = Calls()
     add_edges(calls)
@@ -678,6 +787,7 @@ def all_calls():
     add_least_openings(calls, random.Random(11))
     add_all_openings(calls, random.Random(13))
     add_incomes(calls, random.Random(17))
+    add_plain(calls, random.Random(23))
     return calls
 
 
@@ -744,3 +854,57 @@ def reported_bytes():
     yield from refused_bytes()
     for head, row in itertools.chain(reported_plans(random.Random(3)), reported_incomes(random.Random(19))):
         yield write_bytes(head, row)
+
+
+# ---- Plans whose whole tree is held to these rules
+
+
+def numbered(word, *numbers):
+    return [Question(word, number) for number in numbers]
+
+
+FILLED = Head(SMALL_MONTHS, SMALL_OPENING, 13), [S // 3] * SMALL_MONTHS + geometric(13)  # no size empty, more sizes than levels
+BETWEEN = Head(4, 3, 6), [S // 2, S // 5, 1, S - 1] + [0, S // 2, 0, 0, S // 2, 0, 0]  # most sizes empty
+
+
+def edge_trees():
+    """No months, an opening of 0, months in which no claim or a claim is sure to come, over, empty sizes, and numbers that rounding twice a month
+    would change."""
+    asked = (SURVIVE, *numbered("both", 0, 1), *numbered("high", 2, 3), *numbered("low", 5))
+    yield from ((question, flat(0, 3, 2)) for question in asked)
+    yield SURVIVE, (Head(0, 0, 1), ONE_SIZE)
+    for question in (SURVIVE, *numbered("both", 1), *numbered("high", 0), *numbered("low", 2)):
+        yield question, (Head(3, 0, 2), [S // 2, S // 3, S - 1, 1, S - 1, 0])
+    for chances in ([0] * 3, [S] * 3, [S, 0, S // 3], [0, 1, S]):
+        for question in (SURVIVE, *numbered("both", 1)):
+            yield question, (Head(3, 2, 3), chances + [S // 4, S // 2, S // 4, 0])
+    yield SURVIVE, (Head(2, 1, 2), [S // 2, S // 3] + geometric(2))
+    yield SURVIVE, (Head(2, 1, 2), [S // 2, S // 3, 0, 0, S])
+    for question in (SURVIVE, *numbered("both", 2), *numbered("high", 4), *numbered("low", 3)):
+        yield question, BETWEEN
+    for weights in ([1, S - 1], [S // 3, S // 3, S - 2 * (S // 3)]):
+        yield SURVIVE, (Head(3, 2, len(weights)), [S - 1] * 3 + weights + [0])
+
+
+def large_trees(rng):
+    """As large as can be; levels that are forbidden in the middle, and high below the opening."""
+    for question in (SURVIVE, *numbered("both", 0, 6, CLAIMS), *numbered("high", 5, 6, 8), *numbered("low", 4, 7, LEVEL)):
+        yield question, FILLED
+    *_, wide, ten_filled = largest_small_plans(rng)
+    yield from ((question, wide) for question in (SURVIVE, *numbered("both", 3), *numbered("high", LEVEL)))
+    yield from ((question, ten_filled) for question in numbered("low", 3))
+
+
+def small_bytes():
+    """A question and plan bytes: document 01's example first, last what is refused; 10 for the question comes after each number of reading."""
+    for question in (SURVIVE, *numbered("both", 0, 1, 2, 3), *numbered("high", 0, 1, 2, 3, 4), *numbered("low", 0, 1, 2, 3)):
+        yield question, EXAMPLE_BYTES
+    for question, plan in itertools.chain(edge_trees(), large_trees(random.Random(29))):
+        yield question, write_bytes(*plan)
+    for data in refused_bytes():
+        if len(data) <= byte_length(LARGEST_SMALL):
+            yield Question("both", CLAIMS + 1), data
+    for large in TOO_LARGE:
+        yield SURVIVE, write_bytes(*large(Ask(*BRIEF, SURVIVE))[:2])
+    for question in (*numbered("both", CLAIMS + 1), *numbered("high", LEVEL + 1), *numbered("low", LEVEL + 1, FULL_NUMBER)):
+        yield question, EXAMPLE_BYTES

@@ -1,19 +1,21 @@
 #!/usr/bin/env python3
 """Holds two programs for the reserve report against each other, or two that turn rule sheets into plan bytes, or two that find the least opening, or
-two that print the bounds of all openings, or how far the lines of one's reports move between two plans against another program and the sum that
-bounds them.
+two that print the bounds of all openings, or two that print the tree of a small plan, or how far the lines of one's reports move between two plans
+against another program and the sum that bounds them.
 
   compare.py PROGRAM REFERENCE [COUNT]
   compare.py --sheets PROGRAM REFERENCE [COUNT]
   compare.py --least PROGRAM REFERENCE [COUNT]
   compare.py --openings PROGRAM REFERENCE [COUNT]
+  compare.py --trees PROGRAM REFERENCE [COUNT]
   compare.py --moves PROGRAM REFERENCE [COUNT]
 
 Makes COUNT (100) random accepted plans of all sizes and incomes, or sheets, and as many damaged ones, always the same, hands each to both
 programs on standard input, and compares what they write on standard output and standard error, byte for byte. For the least opening it does so
-with several targets, each a program's last argument. For moves it makes pairs of accepted plans alike but for their chances: PROGRAM prints the
-report of each, and REFERENCE how far each line moves between them; a line that moves by more than the sum of the chances' differences counts as
-a difference. A program may be a command of several words, given as one. The last line is the number of differences.
+with several targets, each a program's last argument; for trees with several questions, the last arguments, on plans of which most are small, some
+just too large and some of any size. For moves it makes pairs of accepted plans alike but for their chances: PROGRAM prints the report of each, and
+REFERENCE how far each line moves between them; a line that moves by more than the sum of the chances' differences counts as a difference. A program
+may be a command of several words, given as one. The last line is the number of differences.
 """
 import random
 import shlex
@@ -24,8 +26,8 @@ from collections import Counter, namedtuple
 
 from moves import moves_text, too_far
 from plans import changed, flipped, gapped, geometric, some_chance, split
-from rules import CLAIMS, HEAD_BITS, HEAD_BYTES, INCOME, LARGEST, MONTHS, OPENING, SIZES, SPAN, WIDTHS, Head, S, bit_length, byte_length
-from rules import largest_level, write_bytes
+from rules import CLAIMS, HEAD_BITS, HEAD_BYTES, INCOME, LARGEST, LEVEL, MONTHS, OPENING, SIZES, SMALL_INCOME, SMALL_MONTHS, SMALL_OPENING, SPAN
+from rules import WIDTHS, Head, S, bit_length, byte_length, largest_level, write_bytes
 from sheet_cases import damaged_sheet, some_sheet
 from sheets import write_sheet
 
@@ -55,6 +57,14 @@ def some_head(rng):
     c = rng.randint(1, INCOME)
     n = some_number(rng, 0, min(MONTHS, SPAN // c), 1, CLAIMS, CLAIMS + 1)
     return sized_head(rng, n, some_number(rng, 0, min(OPENING, SPAN - c * n), 1), c)
+
+
+def small_head(rng):
+    """Of a plan that has a tree; one in twelve is just too large, one of any size."""
+    n, u = some_number(rng, 0, SMALL_MONTHS, 1), some_number(rng, 0, SMALL_OPENING, 1)
+    small = Head(n, u, rng.choice([rng.randint(1, 4), rng.randint(1, u + n + 2), some_number(rng, 1, SIZES, u + n)]), SMALL_INCOME)
+    large = [small._replace(months=SMALL_MONTHS + 1), small._replace(opening=SMALL_OPENING + 1), small._replace(income=rng.randint(2, INCOME))]
+    return rng.choice([small] * 10 + [rng.choice(large), some_head(rng)])
 
 
 def some_chances(rng, n):
@@ -96,9 +106,13 @@ def some_row(rng, head):
     return some_chances(rng, head.months) + some_weights(rng, parts) + [0] * (m + 1 - parts)
 
 
-def accepted(rng):
-    head = some_head(rng)
+def accepted(rng, make_head=some_head):
+    head = make_head(rng)
     return write_bytes(head, some_row(rng, head))
+
+
+def accepted_small(rng):
+    return accepted(rng, small_head)
 
 
 # ---- Damaged ones, though a flipped bit may leave an accepted plan
@@ -166,9 +180,13 @@ def past_span(rng, head, row):
 DAMAGES = [in_head, in_row, in_padding, one_more, with_tail, shortened, lengthened, random_row, random_bytes, past_span]
 
 
-def damaged(rng):
-    head = some_head(rng)
+def damaged(rng, make_head=some_head):
+    head = make_head(rng)
     return rng.choice(DAMAGES)(rng, head, some_row(rng, head))
+
+
+def damaged_small(rng):
+    return damaged(rng, small_head)
 
 
 # ---- Sheets, of heads as these plans of income 1 have
@@ -203,7 +221,7 @@ def pair(rng):
     return write_bytes(head, row) + write_bytes(head, other)
 
 
-# ---- Arguments: none, or a target for the least opening
+# ---- Arguments: none, a target for the least opening, or a question for a tree
 
 TARGETS = 0, 1, S, S + 1, 2**32, 2**32 + 1, 2**64 + 1, 10**40  # the last ones are past S, whatever their last bits are
 
@@ -227,6 +245,24 @@ def some_targets(rng, reference, data):
         yield [str(number).zfill(rng.choice([0, 0, 20]))]
 
 
+QUESTIONS = 3  # that a tree is asked for, of each plan
+
+
+def some_question(rng):
+    """Its words, of which the number is mostly one that a small plan can come to."""
+    word = rng.choice(["survive", "both", "both", "high", "high", "low", "low"])
+    if word == "survive":
+        return rng.choice([[], [word]])
+    reached = SMALL_MONTHS if word == "both" else SMALL_OPENING + SMALL_MONTHS
+    edge = rng.choice([CLAIMS, CLAIMS + 1, LEVEL, LEVEL + 1, 2**32 - 1, 2**32, 2**32 + 1, 2**64 + 1, 10**40])
+    number = edge if rng.randrange(8) == 0 else rng.randint(0, reached + 1)
+    return [word, str(number).zfill(rng.choice([0, 0, 20]))]
+
+
+def some_questions(rng, reference, data):
+    return [some_question(rng) for _ in range(QUESTIONS)]
+
+
 # ---- The comparison
 
 Matter = namedtuple("Matter", "given made makers arguments")  # what programs are given and make of it; how it is made, accepted and damaged
@@ -235,6 +271,7 @@ OPTIONS = {
     "--sheets": Matter("sheets", "plans", {"accepted": accepted_sheet, "damaged": some_damaged_sheet}, no_arguments),
     "--least": Matter("plans", "openings", {"accepted": accepted, "damaged": damaged}, some_targets),
     "--openings": Matter("plans", "lists of openings", {"accepted": accepted, "damaged": damaged}, no_arguments),
+    "--trees": Matter("plans", "trees", {"accepted": accepted_small, "damaged": damaged_small}, some_questions),
     "--moves": Matter("pairs of plans", "within the sum", {"accepted": pair}, no_arguments),
 }
 

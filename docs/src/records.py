@@ -7,12 +7,15 @@ row, `number` as k or L and a workspace of `room` numbers that each hold `fill`;
 weights, with the first `number` of its chances as the values that claims of size 1, 2, … lead to, and answers its quotient by S, what is left
 over and the number of products. `openings` lends a row of `number` numbers, which takes the bounds of all openings, and a workspace of `room`, each
 number holding `fill`. `write` lends `room` bytes and `read` a row of `room` numbers, each holding `fill`; `read` is followed by the plan's
-`length` bytes.
+`length` bytes. The four that begin with `plain-` ask the engine without rows, `number` as k or L, and lend nothing.
 Its output has a line for each record but `row`: the refusal's number, the numbers answered, of `read` months, opening, sizes and income, and the lent
 memory after the call where there is any, which is the bytes of `write` in hexadecimal and otherwise a checksum; of `openings` a checksum of the whole
 lent row and then one of the whole workspace.
 
 `reports` and `tables` read plans one after another: two bytes with a plan's length, most significant first, and its bytes.
+
+`trees` reads records one after another, each with its length as those plans have theirs: the question (one byte), its number (four bytes, most
+significant first) and the plan's bytes. It prints the tree of each.
 
 `sheets` reads records of a kind (one byte), a room (two bytes, most significant first) and a sheet with its length, as those plans have theirs.
 `read` reads the sheet into a row of `room` numbers that each hold FULL_NUMBER; its line has the refusal's number, the head, as above, and the whole
@@ -24,11 +27,12 @@ import math
 from functools import cache
 
 from rules import HEAD_BYTES, LARGEST, MOST_ASKED, NO_HEAD, NONE, PLACES, S, SURVIVE, ask_checks, bounds, byte_length, claim_sum, count_row, down
-from rules import failure_bounds, failure_checks, least_answer, opening_pairs, openings_answer, places_needed, plan_checks, plan_of, read_bytes
-from rules import read_checks, refusal, report, row_length, up, walked_pairs, workspace_needed, write_bytes, write_checks
+from rules import failure_bounds, failure_checks, least_answer, opening_pairs, openings_answer, places_needed, plain_checks, plan_checks, plan_of
+from rules import read_bytes, read_checks, refusal, report, row_length, up, walked_pairs, workspace_needed, write_bytes, write_checks
 from sheets import made_bytes, made_plan, sheet_checks
 
-KINDS = ["row", "survive", "both", "high", "low", "count", "write", "read", "fails", "claims", "least", "openings"]
+WORDS = ["survive", "both", "high", "low"]  # of the four questions
+KINDS = ["row", *WORDS, "count", "write", "read", "fails", "claims", "least", "openings", *(f"plain-{word}" for word in WORDS)]
 FULL_NUMBER = 2**32 - 1  # the largest number that a row or a workspace can hold
 
 # The room that the program lends, as in crates/test_vectors/src/rooms.rt. It passes over a record that needs more.
@@ -45,6 +49,10 @@ PLAN_BYTES = 1800  # the most that `sheets` lends; it has ROW numbers as well
 
 def plan_list(plans):
     return b"".join(len(data).to_bytes(2, "big") + data for data in plans)
+
+
+def tree_record(question, data):
+    return bytes([WORDS.index(question.word)]) + question.number.to_bytes(4, "big") + data
 
 
 def checksum(memory):
@@ -120,6 +128,14 @@ class Calls:
         number, *answer = answer_of(head, row, question, room)
         label = f"{question.word} {question.number} of {tuple(head)}, row of {len(row)}, workspace of {room} holding {fill}"
         self.answers(label, number, *answer, checksum(workspace_after(head, question, number, room, fill)))
+
+    def plain(self, head, row, question):
+        """Without rows; the bounds expected are those of the month rule over rows."""
+        self.use(row)
+        self.record(f"plain-{question.word}", head, question.number)
+        number = refusal(plain_checks(head, row, question))
+        answer = (0, 0) if number else bounds(plan_of(head, row), question)
+        self.answers(f"plain {question.word} {question.number} of {tuple(head)}, row of {len(row)}", number, *answer)
 
     def openings(self, head, row, room=None, places=None, fill=FULL_NUMBER):
         room = workspace_needed(head, SURVIVE) if room is None else room

@@ -25,20 +25,25 @@ Written from these documents and their sources alone, not from the engine or its
   reference.py openings           plan bytes on standard input, the bounds of survival at each opening up to the plan's on standard output
   reference.py openings-example DIR
                                   DIR/stdin and DIR/stdout of the program that prints these
+  reference.py tree [WORD [N]]    bytes of a small plan on standard input, its tree on standard output, of the question with this word and number or,
+                                  without a word, of survive
+  reference.py trees DIR          DIR/stdin and DIR/stdout of the test program over trees
+  reference.py tree-example DIR   DIR/stdin, DIR/args and DIR/stdout of the program that prints a tree: document 01's example
 """
 import math
 import struct
 import sys
 from pathlib import Path
 
-from cases import all_calls, repeated_calls, reported_bytes
+from cases import all_calls, repeated_calls, reported_bytes, small_bytes
 from old_plans import renewed
 from plans import EXAMPLE_BYTES, EXAMPLE_TEXT, timed_plans
-from records import plan_list
+from records import plan_list, tree_record
 from rules import Head, Question, byte_length, least_line, openings_text, refusal, report, target_of, write_bytes, write_checks
 from selftest import selftest
 from sheet_cases import EXAMPLE_SHEET, QUOTED_SHEET, all_sheet_calls
 from sheets import made_bytes, sheet_checks, write_sheet
+from trees import question_of, tree_text
 
 
 def write_test(folder, stdin, stdout):
@@ -140,6 +145,26 @@ def write_openings_example(folder):
     write_test(folder, data, openings_text(data))
 
 
+def write_trees(folder):
+    asked = list(small_bytes())
+    write_test(folder, plan_list(tree_record(*one) for one in asked), "".join(tree_text(data, question) for question, data in asked))
+
+
+TREE_WORDS = "both", "1"
+
+
+def write_tree_example(folder):
+    Path(folder, "args").write_text("".join(f"{word}\n" for word in TREE_WORDS))
+    write_test(folder, EXAMPLE_BYTES, tree_text(EXAMPLE_BYTES, question_of(TREE_WORDS)))
+
+
+def print_tree(words, data):
+    question = question_of(words)
+    if question is None:
+        sys.exit("a question is survive, both, high or low, the last three with a whole number")
+    sys.stdout.write(tree_text(data, question))
+
+
 def print_least(word, data):
     target = target_of(word)
     if target is None:
@@ -156,6 +181,8 @@ WRITTEN = {  # the commands that write files into a folder
     "sheet-example": write_sheet_example,
     "least-example": write_least_example,
     "openings-example": write_openings_example,
+    "trees": write_trees,
+    "tree-example": write_tree_example,
 }
 
 
@@ -181,6 +208,8 @@ def main(words):
             print_least(target, sys.stdin.buffer.read())
         case ["openings"]:
             sys.stdout.write(openings_text(sys.stdin.buffer.read()))
+        case ["tree", *question]:
+            print_tree(question, sys.stdin.buffer.read())
         case [word, folder] if word in WRITTEN:
             WRITTEN[word](folder)
         case _:

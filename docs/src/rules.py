@@ -11,6 +11,7 @@ from itertools import accumulate, chain, pairwise
 S = 2**30
 MONTHS, OPENING, SIZES, INCOME, SPAN = 120, 200, 320, 8, 320  # the limits of n, u, m, c and of u + c × n
 CLAIMS, LEVEL = 24, 320  # those of k in both, of L in high and low
+SMALL_MONTHS, SMALL_OPENING, SMALL_INCOME = 6, 6, 1  # of a plan that the engine without rows takes: the most, and the one income
 PLACES = MONTHS + 1  # of the count row
 
 Head = namedtuple("Head", "months opening sizes income", defaults=[1])  # where none is said, the income is 1
@@ -126,6 +127,18 @@ def ask_checks(head, row, question, room):
     yield from plan_checks(head, row)
     yield 10, question.number > MOST[question.word]
     yield 11, room < workspace_needed(head, question)
+
+
+def small_checks(head, question):
+    """Of an accepted plan, for the engine without rows: the question's limits, and "a plan of more than 6 months, of an opening above 6, or of an
+    income other than 1"."""
+    yield 10, question.number > MOST[question.word]
+    yield 10, head.months > SMALL_MONTHS or head.opening > SMALL_OPENING or head.income != SMALL_INCOME
+
+
+def plain_checks(head, row, question):
+    yield from plan_checks(head, row)
+    yield from small_checks(head, question)
 
 
 def failure_checks(head, row, t, room):
@@ -321,11 +334,15 @@ def least_answer(head, row, target, room):
     return (number, 0, 0, 0) if number else least_opening(plan_of(head, row), target)
 
 
-def target_of(word):
-    """The number that a word of digits gives; one past S may be cut, as long as it stays past S. None of any other word."""
+def number_of(word, most):
+    """The number that a word of digits gives; one past the most may be cut, as long as it stays past it. None of any other word."""
     if not (word.isascii() and word.isdigit()):
         return None
-    return int(word.lstrip("0")[: len(str(S)) + 1] or "0")
+    return int(word.lstrip("0")[: len(str(most)) + 1] or "0")
+
+
+def target_of(word):
+    return number_of(word, S)
 
 
 def least_line(data, target):

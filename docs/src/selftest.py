@@ -21,6 +21,8 @@ from sheet_cases import DOUBLES, EXAMPLE_SHEET, HALF, INFINITE, LEVEL, LONE, NAN
 from sheet_cases import decimal_ramps, some_share, some_sheet, telling_ramps, with_double
 from sheets import LEVEL_KIND, SHEET_BYTES, SIGN, claim_weights, finite, head_of, last_place, made_plan, parts, pattern, plan_row, plus, power
 from sheets import read_sheet, rounded, sheet_checks, times, value, write_sheet
+from tree_checks import check_small_numbers, check_trees, tree_plans
+from trees import plain_answer, tree_text
 
 
 class Tally:
@@ -380,6 +382,19 @@ def check_openings_numbers(tally):
         tally.check("all openings: texts", openings_text(data) == text, (data.hex(), openings_text(data)))
 
 
+# ---- The engine without rows
+
+
+def check_plain_refusals(tally):
+    """The numbers of a plan come before that of a question or of a plan that is too large."""
+    for (number, head, row), question in itertools.product(REFUSED_PLANS, (SURVIVE, Question("both", 25), Question("high", 321))):
+        got = plain_answer(head, row, question)
+        tally.check("plain engine: plans refused", got == (number, 0, 0), (head, row, question, got))
+    refused = (one for one in OPENINGS_TEXTS if one[1].startswith("refused"))
+    for (data, text), question in itertools.product(refused, (SURVIVE, Question("both", 25))):
+        tally.check("trees: bytes refused", tree_text(data, question) == text, (data.hex(), question))
+
+
 # ---- Two plans
 
 
@@ -729,6 +744,8 @@ def selftest():
     check_small_divisions(tally, random.Random(15))
     check_least_numbers(tally)
     check_openings_numbers(tally)
+    check_plain_refusals(tally)
+    check_small_numbers(tally)
     check_wide_walks(tally, random.Random(39))
     targets, others = random.Random(21), random.Random(33)
     for head, row in itertools.chain(small_plans(rng), small_income_plans(random.Random(45))):
@@ -736,6 +753,7 @@ def selftest():
         tally.check("bytes there and back", read_bytes(write_bytes(head, row))[:2] == (head, row), (head, row))
         if head.income == 1:
             check_old_plan(tally, (head, row))
+            check_trees(tally, plan_of(head, row))
         check_claim_sums(tally, own, plan_of(head, row).weights)
         check_plan(tally, plan_of(head, row))
         check_least_openings(tally, targets, plan_of(head, row))
@@ -744,6 +762,8 @@ def selftest():
         for other in other_plans(others, plan_of(head, row)):
             check_moves(tally, (plan_of(head, row), other), questions(head))
     check_sum_met(tally)
+    for head, row in tree_plans(random.Random(51)):
+        check_trees(tally, plan_of(head, row))
     for n, u, m, c in ((MONTHS, 0, 2, 1), (MONTHS, 3, 5, 1), (MONTHS, 7, 1, 1), (MONTHS, 3, 6, 2), (SPAN // INCOME, 0, 24, INCOME)):
         plan = plan_of(*lasting_plan(rng, n, u, m, c))
         check_long_plan(tally, plan)

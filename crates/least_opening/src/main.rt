@@ -20,9 +20,9 @@ fn main() {
 fn with_target() {
     let mut argument = io::buffer();
     let n = os::arg(1, &mut argument);
-    let target = quote::target_of(&argument[..n]);
+    let target = arguments::number_of(&argument[..n]);
     let readable = target.readable;
-    let parts = target.parts;
+    let parts = target.value;
     if readable {
         answer(parts);
     } else {

@@ -3,11 +3,11 @@ use mathlib.Core.Path.{_≡_, refl, sym, _∙_, ap, ap₂, fun-ext}
 use mathlib.Core.Bool.{Bool, true, false, cond}
 use mathlib.Core.List.{List, [], _∷_, _++_}
 use mathlib.Core.Option.{Option, none, some}
-use Prim.Native.Nat.{ℕ, zero, suc, _+_, _*_, _-_, _^_, _≤_, zero-le}
+use Prim.Native.Nat.{ℕ, zero, suc, _+_, _*_, _-_, _^_, _≤_, zero-le, _<_}
 use native.Mathlib.Nat.{pow-zero, add-mul, mul-assoc, one-mul, zero-mul, zero-add, le-refl}
 use native.Mathlib.Omega.{arith}
 use lib.ListN.{length, getD, take, drop, length-take, take-append-drop}
-use lib.Seq.{getD-drop, drop-drop}
+use lib.Seq.{getD-drop, drop-drop, take-all}
 use Rattle.model.specs.declared.Rounding.{Rounding}
 use Rattle.model.specs.declared.Rounding.the-variants.{Down, Up}
 use Rattle.model.specs.declared.Question.{Question}
@@ -21,6 +21,16 @@ use Rattle.model.proofs.SumLaws.{pow-two-more, positive-none, positive-
 use Rattle.model.proofs.LevelLaws.{level-start, level-next, level-from, reachable}
 use Rattle.model.proofs.Quotients.{Direction}
 use Rattle.model.proofs.Month.{MonthFits, claim-sum-times, month-encloses, month-le, month-fits, month-gap-live, month-gap-idle}
+
+-- no chances, where there is no month
+pub no-chances : (Ps : List ℕ) → length Ps < 1 → Ps ≡ []
+no-chances [] l = refl
+no-chances (P ∷ Ps) l = absurd (omega arith)
+
+-- the first chance and those of the other months, as a part of the list
+pub first-and-rest : (Ps : List ℕ) → 0 < length Ps → Ps ≡ getD Ps 0 0 ∷ take (length Ps - 1) (drop 1 Ps)
+first-and-rest [] l = absurd (omega arith)
+first-and-rest (P ∷ Ps) l = ap (λ (Qs : List ℕ). P ∷ Qs) (sym (take-all (suc (length Ps) - 1) Ps (omega arith)))
 
 -- what is related, and relates 0 to 0, stays related where levels are taken as 0
 pub kept-rel :

@@ -34,6 +34,16 @@ max-income = 8
 abbrev pub max-span : ℕ
 max-span = 320
 
+-- Document 02, of small plans: refused is "a plan of more than 6 months, of an opening above 6, or of an income other than 1"
+abbrev pub max-small-months : ℕ
+max-small-months = 6
+
+abbrev pub max-small-opening : ℕ
+max-small-opening = 6
+
+abbrev pub small-income : ℕ
+small-income = 1
+
 -- room for the longest row of a plan
 abbrev pub row-room : ℕ
 row-room = max-months + max-sizes + 1

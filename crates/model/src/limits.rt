@@ -18,6 +18,13 @@ pub const INCOME: usize = 8;
 // The largest level of any plan.
 pub const SPAN: usize = 320;
 
+// A small plan, which is followed month by month: at most so many months and such an opening, and this income.
+pub const SMALL_MONTHS: usize = 6;
+
+pub const SMALL_OPENING: usize = 6;
+
+pub const SMALL_INCOME: usize = 1;
+
 // Room for the longest row of a plan.
 pub const ROW: usize = MONTHS + SIZES + 1;
 

@@ -133,15 +133,6 @@ taken-back-more round F shape opening P Ps before mid after h back beyond =
       beyond = λ k l i a b. beyond k l i (omega arith) b ∙ beyond-month round F shape opening P Ps before mid h k l i;
     }
 
-pub no-chances : (Ps : List ℕ) → length Ps < 1 → Ps ≡ []
-no-chances [] l = refl
-no-chances (P ∷ Ps) l = absurd (omega arith)
-
--- the first chance and those of the other months, as a part of the list
-pub first-and-rest : (Ps : List ℕ) → 0 < length Ps → Ps ≡ getD Ps 0 0 ∷ take (length Ps - 1) (drop 1 Ps)
-first-and-rest [] l = absurd (omega arith)
-first-and-rest (P ∷ Ps) l = ap (λ (Qs : List ℕ). P ∷ Qs) (sym (take-all (suc (length Ps) - 1) Ps (omega arith)))
-
 -- the value at the opening with all claims to place stands at the first place of all
 pub taken-value :
     (round : Rounding) (F : List ℕ) (shape : Shape) (opening : ℕ) (Ps before after : List ℕ) → TakenBack round F shape opening Ps before after →

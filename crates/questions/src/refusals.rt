@@ -11,7 +11,7 @@ ghost use Rattle.model.specs.Refusal.{first, asked-checks, workspace-needed, mo
 ghost use Rattle.model.specs.Refusal.{outside as Refusal·outside};
 
 // The checks of the plan, then the number of what is asked of it, where that is outside the limits.
-fn asked_refusal(head: Head, row: &[u32], number: u32, outside: bool) -> u32
+pub fn asked_refusal(head: Head, row: &[u32], number: u32, outside: bool) -> u32
     ensures { λ r. ⌜ r ≡ first (asked-checks head (now (row .entry)) (number, outside)) ⌝ }
 {
     let of_plan = plan::plan_refusal(head, row);

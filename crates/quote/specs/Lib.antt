@@ -1,3 +1,2 @@
--- The quoting desk's line, and the target that it is asked for.
+-- The quoting desk's line.
 pub mod Quote
-pub mod Target

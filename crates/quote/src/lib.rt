@@ -1,8 +1,4 @@
 // The quoting desk's line: from the bytes of a plan and a target to the least opening that reaches it, or why there is none.
-mod digits;
-
-use crate::digits::next_number;
-use crate::digits::not_digit;
 use model::Head;
 use opening_search::LeastAnswer;
 use plan::lengths::row_length;
@@ -20,16 +16,9 @@ ghost use Rattle.opening_search.specs.Answers.{least-answer};
 ghost use Rattle.text.specs.Text.{Appended};
 ghost use Rattle.report_lines.specs.Lines.{line-room};
 ghost use Rattle.quote.specs.Quote.{answer-line, quote-of};
-ghost use Rattle.quote.specs.Target.{target-of};
 
 // Room for every line: the proof of `quote` fails where it is less than `line-room`.
 pub const TEXT: usize = 128;
-
-// A target in parts of 2^30, and whether it could be read; 0 where it could not.
-pub struct Target {
-    pub readable: bool,
-    pub parts: u32,
-}
 
 // Writes the line for a plan's bytes and a target to the start of the text, past which nothing changes, and answers how long it is. `within` is for a
 // caller that takes the first r bytes.
@@ -75,32 +64,4 @@ fn put_answer(text: &mut [u8], answer: LeastAnswer) -> usize
         return put_refused(text, 0, refusal);
     }
     put_numbered(text, 0, b"opening", answer.opening, lower, upper)
-}
-
-// Reads a target that is written in decimal; leading zeros change nothing.
-pub fn target_of(argument: &[u8]) -> Target
-    ensures { λ r. ⌜ r ≡ target-of (now (argument .entry)) ⌝ }
-{
-    if argument.len() == 0 {
-        return Target {
-            readable: false,
-            parts: 0,
-        };
-    }
-    let mut number = 0;
-    let mut i = 0;
-    while i < argument.len() {
-        if not_digit(argument[i]) {
-            return Target {
-                readable: false,
-                parts: 0,
-            };
-        }
-        number = next_number(number, argument[i]);
-        i += 1;
-    }
-    Target {
-        readable: true,
-        parts: number,
-    }
 }

@@ -16,7 +16,7 @@ use numbers::wide;
 use rounding::divide;
 
 // The weight of the claims that ruin at the level at which they come: of all sizes from that level on, and over.
-fn ruin_weight(severity: &[u32], tail: u32, level: usize) -> u64
+pub fn ruin_weight(severity: &[u32], tail: u32, level: usize) -> u64
     requires { ⌜ total (now severity) + tail ≤ S ⌝ }
     ensures { λ r. ⌜ r ≡ ruin-weight (now (severity .entry)) tail level ⌝ }
 {

@@ -22,6 +22,10 @@ pub fn call(record: Record, row: &[u32]) {
         6 => format::write(record, row),
         7 => format::read(record),
         9 => sums::claims(head, number, row),
+        12 => plain(head, Question::Survive, row),
+        13 => plain(head, Question::Both(number), row),
+        14 => plain(head, Question::High(number), row),
+        15 => plain(head, Question::Low(number), row),
         _ => lend(record, row),
     }
 }
@@ -63,6 +67,15 @@ fn call_in(record: Record, row: &[u32], workspace: &mut [u32]) {
 fn ask(head: Head, question: Question, row: &[u32], workspace: &mut [u32]) {
     let answer = engine::ask(Ask { head, question }, row, workspace);
     bounds(answer, workspace);
+}
+
+// The plain engine is lent nothing.
+fn plain(head: Head, question: Question, row: &[u32]) {
+    let answer = plain_engine::ask(Ask { head, question }, row);
+    text::first(answer.refusal as u64);
+    text::next(answer.lower as u64);
+    text::next(answer.upper as u64);
+    text::end();
 }
 
 fn fails(head: Head, month: usize, row: &[u32], workspace: &mut [u32]) {

@@ -9,7 +9,7 @@ use model::Head;
 use numbers::big_endian;
 
 // The last kind; `next` gives a larger one at the end of the input.
-pub const LAST: u8 = 11;
+pub const LAST: u8 = 15;
 
 const END: u8 = 255;
 

@@ -17,6 +17,13 @@ use Rattle.text.specs.Text.{last-digit, digits, decimal, spaced-each, jo
 pub appended-none : (b : List ℕ) (at : ℕ) → at ≤ length b → Appended b at [] b at
 appended-none b at h = record { ends = omega arith; inside = h; holds = sym (append-nil (take at b)); rest = refl }
 
+pub appended-nothing : (t b : List ℕ) (at : ℕ) → t ≡ [] → at + length t ≤ length b → Appended b at t b at
+appended-nothing t b at e room = rw e (appended-none b at (omega arith))
+
+-- the same text by another name
+pub appended-as : {b b′ t u : List ℕ} {at end : ℕ} → t ≡ u → Appended b at u b′ end → Appended b at t b′ end
+appended-as e h = rw e h
+
 -- one text after another
 pub appended-more : {b₀ b₁ b₂ t₁ t₂ : List ℕ} {a₀ a₁ a₂ : ℕ} → Appended b₀ a₀ t₁ b₁ a₁ → Appended b₁ a₁ t₂ b₂ a₂ → Appended b₀ a₀ (t₁ ++ t₂) b₂ a₂
 appended-more {b₀} {b₁} {b₂} {t₁} {t₂} {a₀} {a₁} p q =
@@ -26,6 +33,13 @@ appended-more {b₀} {b₁} {b₂} {t₁} {t₂} {a₀} {a₁} p q =
       holds = q .holds ∙ ap (λ (l : List ℕ). l ++ t₂) (p .holds) ∙ append-assoc (take a₀ b₀) t₁ t₂;
       rest = q .rest ∙ (rw (q .ends, ← drop-drop (length t₂) a₁ b₁, ← drop-drop (length t₂) a₁ b₀, p .rest));
     }
+
+-- room for the first of two texts, and for the second once the first is appended
+pub room-first : {n : ℕ} (at : ℕ) (t u : List ℕ) → at + length (t ++ u) ≤ n → at + length t ≤ n
+room-first at t u h = omega (arith, length-append t u)
+
+pub room-rest : {b b′ t : List ℕ} {at end : ℕ} (u : List ℕ) → Appended b at t b′ end → length b′ ≡ length b → at + length (t ++ u) ≤ length b → end + length u ≤ length b′
+room-rest {t = t} u p same h = omega (arith, p .ends, length-append t u)
 
 -- appended to nothing: the whole buffer, of which the text is the first part
 pub appended-whole :
@@ -63,6 +77,19 @@ digits-length (suc places) n =
 decimal-length : (n : ℕ) → length (decimal n) ≤ 20
 unfolding decimal
 decimal-length n = digits-length 20 n
+
+-- and as many as it needs
+digits-few : (places k n : ℕ) → n < 10 ^ suc k → length (digits places n) ≤ suc k
+unfolding digits
+digits-few zero k n h = omega arith
+digits-few (suc places) zero n h = rw (lt-ltb n 10 h) (omega arith)
+digits-few (suc places) (suc k) n h =
+    simp length-append
+    (omega (arith, no-longer (ltb n 10) (digits places (n / 10)), digits-few places k (n / 10) (omega (arith, pow-suc 10 (suc k)))))
+
+pub decimal-few : (k n : ℕ) → n < 10 ^ suc k → length (decimal n) ≤ suc k
+unfolding decimal
+decimal-few k n h = digits-few 20 k n h
 
 -- a place more than the number needs changes nothing
 digits-enough : (places n : ℕ) → n < 10 ^ suc places → digits (suc (suc places)) n ≡ digits (suc places) n

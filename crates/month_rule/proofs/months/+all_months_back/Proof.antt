@@ -9,13 +9,14 @@ use lib.ListN.{length, getD, take, drop, length-drop}
 use lib.Seq.{length-take-le}
 use Rattle.model.specs.Levels.{largest-level}
 use Rattle.model.proofs.LevelLaws.{level-next, level-from}
+use Rattle.model.proofs.Values.{no-chances, first-and-rest}
 use Rattle.claims.specs.Listing.{Listing}
 use Rattle.month_rows.specs.Rows.{MonthTerms}
 use Rattle.month_rule.specs.Months.{PlanTerms}
 use Rattle.month_rows.specs.Shapes.{RowsIn}
 use Rattle.month_rows.proofs.RowLaws.{parts-part}
 use Rattle.month_rows.proofs.ManyRows.{row-fits, rows-in-again}
-use Rattle.month_rule.proofs.AllMonths.{taken-back-none, taken-back-more, no-chances, first-and-rest}
+use Rattle.month_rule.proofs.AllMonths.{taken-back-none, taken-back-more}
 use Rattle.month_rule.proofs.months.all_months_back.Reads as all-months-back
 use Rattle.month_rule.proofs.months.all_months_back.Kinds as all-months-back-kinds
 use Rattle.month_rule.proofs.months.+all_months_back.Lts-all_months_back as all-months-back-lts

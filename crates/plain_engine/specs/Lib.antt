@@ -1,0 +1,3 @@
+-- What the contracts cite: Answers for the call, Steps for the functions below it.
+pub mod Steps
+pub mod Answers

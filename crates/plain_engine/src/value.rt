@@ -1,0 +1,81 @@
+// The value of a level in a month, by document 01's month rule as it is read: a value asks for those that it needs in the next month.
+ghost use mathlib.Core.Path.{_≡_};
+ghost use Rattle.model.specs.Limits.{small-income};
+ghost use Rattle.model.specs.MonthRule.{kept, month, values, rule-of, last-of, claims-of, opening-allowed};
+ghost use Rattle.plain_engine.specs.Steps.{Terms};
+use crate::steps::claims_after;
+use crate::steps::followed;
+use crate::steps::last_value;
+use crate::steps::level_value;
+use crate::steps::product;
+use crate::steps::taken;
+use model::Question;
+use model::Rounding;
+use model::WIDE_SCALE;
+use numbers::lesser;
+use questions::needs::opening_allowed;
+use rounding::month_value;
+
+// V_t(s), with the chances of the months after t and, for both, the claims left to place: with one month fewer to go each time.
+pub fn value(
+    question: Question,
+    chances: &[u32],
+    severity: &[u32],
+    left: usize,
+    level: usize,
+    round: Rounding,
+) -> u32
+    requires { ⌜ Terms (now severity) (now chances) level ⌝ }
+    ensures { λ r.
+        ⌜ r ≡ values (month round small-income (now (severity .entry))) (rule-of question) (last-of question) (now (chances .entry)) left level ⌝ }
+{
+    if chances.len() < 1 {
+        return last_value(question, left);
+    }
+    let later = &chances[1..];
+    let up = level + 1;
+    let quiet = level_value(
+        question,
+        up,
+        value(question, later, severity, left, up, round),
+    );
+    let fewer = claims_after(question, left);
+    let most = followed(question, left, lesser(level, severity.len()));
+    let mut sum: u64 = 0;
+    let mut x = 0;
+    while x < most {
+        let down = level - x;
+        let after = value(question, later, severity, fewer, down, round);
+        sum += product(severity[x], level_value(question, down, after));
+        x += 1;
+    }
+    month_value(chances[0], quiet, sum / WIDE_SCALE, sum % WIDE_SCALE, round)
+}
+
+// V_0(u), with all claims to place.
+pub fn opening_value(
+    question: Question,
+    chances: &[u32],
+    severity: &[u32],
+    opening: usize,
+    round: Rounding,
+) -> u32
+    requires { ⌜ Terms (now severity) (now chances) opening ⌝ }
+    ensures { λ r.
+        ⌜ r ≡ kept (opening-allowed question) (values (month round small-income (now (severity .entry))) (rule-of question) (last-of question) (now (chances .entry)) (claims-of question)) opening ⌝ }
+{
+    let left = claims_to_place(question);
+    let value = value(question, chances, severity, left, opening, round);
+    taken(opening_allowed(question, opening), value)
+}
+
+pub fn claims_to_place(question: Question) -> usize
+    ensures { λ r. ⌜ r ≡ claims-of question ⌝ }
+{
+    match question {
+        Question::Survive => 0,
+        Question::Both(k) => k,
+        Question::High(_) => 0,
+        Question::Low(_) => 0,
+    }
+}

@@ -1,0 +1,2 @@
+-- Laws of the nodes.
+pub mod NodeLaws

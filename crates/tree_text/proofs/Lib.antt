@@ -1,0 +1,3 @@
+-- Laws of the text, and how long it can get.
+pub mod TreeLaws
+pub mod RoomLaws
