@@ -70,10 +70,11 @@ unfolding claim-sum claimed-row sizes-followed left-after sum
 followed-sum F rows none s most range fewer er em ef = rw em (sym (claim-sum-zero F (s + small-income)))
 followed-sum F rows (some k) s most range fewer er em ef = let e : s + small-income - 1 ≡ s = omega arith in rw (e, em, er, ef)
 
--- a product, from a weight and a value that were read one place before their size
-pub term-is : (F : List ℕ) (row : Row) (s x v r : ℕ) → r ≡ getD F x 0 * v → v ≡ row (s - x) → r ≡ claim-term F row s (suc x)
+-- a product, from a weight that was read one place before its size, and the value that the claim leads to
+pub term-is : (F : List ℕ) (row : Row) (s x v r : ℕ) → 0 < x → r ≡ getD F (x - 1) 0 * v → v ≡ row (s + small-income - x) → r ≡ claim-term F row s x
 unfolding nth
-term-is F row s x v r er ev = let down : s + small-income - suc x ≡ s - x = omega arith in rw (down, ← ev) er
+term-is F row s zero v r l er ev = absurd (omega arith)
+term-is F row s (suc x) v r l er ev = let place : suc x - 1 ≡ x = omega arith in rw (← ev) (rw place at er)
 
 sum-part : (f : ℕ → ℕ) (n i : ℕ) → i ≤ n → sum i f ≤ sum n f
 sum-part f zero zero l = omega arith
@@ -84,20 +85,24 @@ sum-part f (suc n) i l =
     (λ (m : i < suc n). omega (arith, sum-part f n i (omega arith), sum-last n f))
     (eq-or-lt-of-le l)
 
--- The loop over the sizes from 1 up: the sum so far is that of the sizes passed.
+-- The loop over the sizes from 1 up: the sum so far is that of the sizes before x.
 pub record Summing (f : ℕ → ℕ) (most so-far x : ℕ) : Type 0 where
-  pub within : x ≤ most
-  pub is : so-far ≡ sum x f
+  pub some : 0 < x
+  pub within : x ≤ most + 1
+  pub is : so-far ≡ sum (x - 1) f
 
 pub summing-turn :
-    (f : ℕ → ℕ) (most so-far x term : ℕ) → x < most → term ≡ f (suc x) → Summing f most so-far x →
+    (f : ℕ → ℕ) (most so-far x term : ℕ) → x ≤ most → term ≡ f x → Summing f most so-far x →
     (so-far + term ≤ sum most f) × Summing f most (so-far + term) (x + 1)
-summing-turn f most so-far x term l e h =
-    let more : so-far + term ≡ sum (x + 1) f = rw add-one (omega (arith, h .is, sum-last x f)) in
-    (omega (arith, more, sum-part f most (x + 1) (omega arith)), record { within = omega arith; is = more })
+summing-turn f most so-far zero term l e h = absurd (omega (arith, h .some))
+summing-turn f most so-far (suc i) term l e h =
+    let place : suc i - 1 ≡ i = omega arith in
+    let next : suc i + 1 - 1 ≡ suc i = omega arith in
+    let more : so-far + term ≡ sum (suc i) f = omega (arith, rw place at (h .is), sum-last i f) in
+    (omega (arith, more, sum-part f most (suc i) l), record { some = omega arith; within = omega arith; is = rw next more })
 
-pub summing-end : (f : ℕ → ℕ) (most so-far x : ℕ) → most ≤ x → Summing f most so-far x → so-far ≡ sum most f
-summing-end f most so-far x l h = let all : x ≡ most = omega (arith, h .within) in rw (← all) (h .is)
+pub summing-end : (f : ℕ → ℕ) (most so-far x : ℕ) → most < x → Summing f most so-far x → so-far ≡ sum most f
+summing-end f most so-far x l h = let all : x - 1 ≡ most = omega (arith, h .within) in rw (← all) (h .is)
 
 -- one month fewer
 pub fewer-months : (Ps : List ℕ) → length (take (length Ps - 1) (drop 1 Ps)) ≡ length Ps - 1

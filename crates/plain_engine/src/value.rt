@@ -42,11 +42,11 @@ pub fn value(
     let fewer = claims_after(question, left);
     let most = followed(question, left, lesser(level, severity.len()));
     let mut sum: u64 = 0;
-    let mut x = 0;
-    while x < most {
-        let down = level - x;
+    let mut x = 1;
+    while x <= most {
+        let down = up - x;
         let after = value(question, later, severity, fewer, down, round);
-        sum += product(severity[x], level_value(question, down, after));
+        sum += product(severity[x - 1], level_value(question, down, after));
         x += 1;
     }
     month_value(chances[0], quiet, sum / WIDE_SCALE, sum % WIDE_SCALE, round)

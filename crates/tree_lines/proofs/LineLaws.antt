@@ -18,34 +18,7 @@ use Rattle.model.proofs.Facts.{not-zero}
 use Rattle.model.proofs.Values.{no-chances, first-and-rest}
 use Rattle.plain_engine.specs.Steps.{left-after, sizes-followed}
 use Rattle.text.specs.Text.{ascii, entry, line, Appended}
-use Rattle.tree_lines.specs.Lines.{left-text, value-text, claimed-text, claim-text, claim-texts, branch-texts}
-
--- the claims left, where the question counts them, and where it does not
-pub left-both : (q : Question) (k j : ℕ) → q ≡ Both j → left-text q k ≡ entry (ascii " left") (k ∷ [])
-unfolding left-text
-left-both q k j e = rw e
-
-pub left-survive : (q : Question) (k : ℕ) → q ≡ Survive → left-text q k ≡ []
-unfolding left-text
-left-survive q k e = rw e
-
-pub left-high : (q : Question) (k L : ℕ) → q ≡ High L → left-text q k ≡ []
-unfolding left-text
-left-high q k L e = rw e
-
-pub left-low : (q : Question) (k L : ℕ) → q ≡ Low L → left-text q k ≡ []
-unfolding left-text
-left-low q k L e = rw e
-
--- the value's line, by whether the level is allowed
-abbrev pub value-line : Bool → Bounds → List ℕ
-value-line allowed b = line (cond allowed [] (ascii " forbidden")) (b .lower ∷ b .upper ∷ [])
-
-pub value-room : (allowed a : Bool) (b : Bounds) (end n : ℕ) → allowed ≡ a → end + length (value-line allowed b) ≤ n → end + length (value-line a b) ≤ n
-value-room allowed a b end n e h = rw e at h
-
-pub value-put : {t t′ : List ℕ} {at end : ℕ} (allowed a : Bool) (b : Bounds) → allowed ≡ a → Appended t at (value-line a b) t′ end → Appended t at (value-line allowed b) t′ end
-value-put allowed a b e h = rw e h
+use Rattle.tree_values.specs.Lines.{left-text, value-text, claimed-text, claim-text, claim-texts, branch-texts}
 
 -- the parts of a claim's line: of an empty size there is none
 abbrev pub claim-first : ℕ → ℕ → List ℕ

@@ -1,2 +1,3 @@
--- Laws of the nodes.
+-- Laws of the nodes, and which there can be.
 pub mod NodeLaws
+pub mod Theorems

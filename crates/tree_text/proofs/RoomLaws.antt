@@ -1,5 +1,5 @@
 -- How long the text of a tree can get, by any measure of texts that adds up: its bytes, and its lines.
-use Prim.Native.Nat.{ℕ, zero, suc, _+_, _*_, _-_, _≤_, zero-le, _<_, min}
+use Prim.Native.Nat.{ℕ, zero, suc, _+_, _*_, _-_, _/_, _≤_, zero-le, _<_, min}
 use mathlib.Core.Path.{_≡_, refl, sym, _∙_, ap, ap₂}
 use mathlib.Core.Bool.{Bool, true, false, cond}
 use mathlib.Core.List.{List, [], _∷_, _++_}
@@ -9,6 +9,7 @@ use native.Mathlib.Omega.{arith}
 use lib.Dec.{leb, eqb, ltb}
 use lib.ListN.{length, getD, drop, length-append}
 use lib.Seq.{getD-drop}
+use borrow.Author.Tests.{ne-eqb}
 use Rattle.model.specs.declared.Question.{Question}
 use Rattle.model.specs.declared.Question.the-variants.{Survive, Both, High, Low}
 use Rattle.model.specs.declared.Rounding.{Rounding}
@@ -20,22 +21,14 @@ use Rattle.model.specs.Plan.{nth}
 use Rattle.model.specs.MonthRule.{rule-of, last-of, claims-of, opening-allowed, one-fewer, ruin-weight, values, month}
 use Rattle.model.proofs.Values.{kept-fits, values-fit, last-fits}
 use Rattle.model.proofs.FirstRuin.{ruin-weight-fits}
-use Rattle.text.specs.Text.{ascii, digits, decimal, spaced, joined, entry, line}
+use Rattle.text.specs.Text.{ascii, last-digit, digits, decimal, spaced, joined, entry, line}
 use Rattle.text.proofs.TextLaws.{decimal-few}
 use Rattle.tree_nodes.specs.Nodes.{node-allowed, reached}
+use Rattle.tree_nodes.proofs.Theorems.{after-claim-near}
 use Rattle.tree_text.specs.Tree.{small-plan, node-if, node-after, level-text, level-down, month-text}
-use Rattle.tree_text.specs.Rooms.{level-lines, month-lines, tree-line-room, text-room}
+use Rattle.tree_text.specs.Rooms.{level-lines, month-lines, tree-line-room, text-room, lines-in}
 use Rattle.tree_text.specs.Terms.{SmallTerms}
-use Rattle.tree_lines.specs.Lines.{node-value, left-text, place-text, value-text, claimed-text, claim-text, claim-each, claim-texts, branch-texts, node-text}
-
--- no more claims are left after a claim
-after-few : (q : Question) (k j : ℕ) → rule-of q .after-claim k ≡ some j → j ≤ k
-unfolding rule-of one-fewer
-after-few Survive k j e = let same : k ≡ j = cc in omega arith
-after-few (Both n) zero j e = let none-is : _≡_ {A = ℕ} 0 1 = cc in absurd (omega arith)
-after-few (Both n) (suc k) j e = let same : k ≡ j = cc in omega arith
-after-few (High L) k j e = let same : k ≡ j = cc in omega arith
-after-few (Low L) k j e = let same : k ≡ j = cc in omega arith
+use Rattle.tree_values.specs.Lines.{node-value, left-text, place-text, value-text, claimed-text, claim-text, claim-each, claim-texts, branch-texts, node-text}
 
 -- a weight is no more than all together
 nth-le : (F : List ℕ) (x : ℕ) → nth F x ≤ total F
@@ -50,7 +43,7 @@ lines-more : (n k : ℕ) → level-lines (suc n) * k ≡ level-lines n * k + (n 
 unfolding level-lines
 lines-more n k = add-mul (level-lines n) (n + 4) k
 
-lines-rise : (m n : ℕ) → m ≤ n → level-lines m ≤ level-lines n
+pub lines-rise : (m n : ℕ) → m ≤ n → level-lines m ≤ level-lines n
 unfolding level-lines
 lines-rise zero n l = zero-le
 lines-rise (suc m) zero l = absurd (omega arith)
@@ -83,7 +76,7 @@ module _ {μ : List ℕ → ℕ} {b small large between : ℕ} (c : Costs μ b s
   unfolding entry joined
   entry-cost word x = m .both word (spaced x)
 
-  line-cost-one : (word : List ℕ) (x : ℕ) → μ (line word (x ∷ [])) ≡ μ word + μ (spaced x) + μ (ascii "\n")
+  pub line-cost-one : (word : List ℕ) (x : ℕ) → μ (line word (x ∷ [])) ≡ μ word + μ (spaced x) + μ (ascii "\n")
   unfolding line
   line-cost-one word x = m .both (entry word (x ∷ [])) (ascii "\n") ∙ ap (λ (n : ℕ). n + μ (ascii "\n")) (entry-cost word x)
 
@@ -182,7 +175,7 @@ module _ {μ : List ℕ → ℕ} {b small large between : ℕ} (c : Costs μ b s
     unfolding claim-text
     claim-cost t later fits k s x lk ls lx =
         at-most (ltb 0 (nth F x)) _ b
-        (claimed-cost (suc t) later fits (rule-of q .after-claim k) (λ j e. omega (arith, lk, after-few q k j e)) (s + small-income - x) x (omega (arith, ls)) lx)
+        (claimed-cost (suc t) later fits (rule-of q .after-claim k) (λ j e. omega (arith, lk, after-claim-near q k j e .0)) (s + small-income - x) x (omega (arith, ls)) lx)
 
     -- the lines below a node, and all of its lines
     branch-cost :
@@ -300,3 +293,46 @@ month-room {t = t} h =
     let early : t ≤ max-small-months = omega (arith, h .ended, h .months-few) in
     let lines : month-lines t ≤ month-lines max-small-months = mul-le-mul (omega arith) (lines-rise (max-small-opening + t + 1) (max-small-opening + max-small-months + 1) (omega arith)) in
     le-trans (month-cost byte-costs h) (mul-le-mul-right tree-line-room lines)
+
+-- the lines of a text, each of which ends with a newline; a number has none
+pub lines-append : (t u : List ℕ) → lines-in (t ++ u) ≡ lines-in t + lines-in u
+unfolding lines-in count
+lines-append [] u = omega arith
+lines-append (x ∷ t) u = omega (arith, lines-append t u)
+
+one-line : (small : Bool) (tens : List ℕ) → lines-in tens ≡ 0 → lines-in (cond small [] tens) ≡ 0
+unfolding lines-in count
+one-line true tens e = refl
+one-line false tens e = e
+
+digits-one-line : (places n : ℕ) → lines-in (digits places n) ≡ 0
+unfolding digits lines-in count
+digits-one-line zero n = refl
+digits-one-line (suc places) n =
+    let last : lines-in (last-digit n ∷ []) ≡ 0 = rw (ne-eqb (last-digit n) 10 (λ e. omega (arith, e))) in
+    omega (arith, lines-append (cond (ltb n 10) [] (digits places (n / 10))) (last-digit n ∷ []), one-line (ltb n 10) (digits places (n / 10)) (digits-one-line places (n / 10)), last)
+
+space-one-line : lines-in (ascii " ") ≡ 0
+unfolding lines-in count
+space-one-line = refl
+
+pub number-one-line : (n : ℕ) → lines-in (spaced n) ≡ 0
+unfolding decimal
+number-one-line n = omega (arith, lines-append (ascii " ") (digits 20 n), digits-one-line 20 n, space-one-line)
+
+pub line-costs : Costs lines-in 1 0 0 0
+unfolding lines-in count
+line-costs =
+    record {
+      measure = record { nothing = refl; both = lines-append };
+      small-fits = λ n l. omega (arith, number-one-line n);
+      large-fits = λ n l. omega (arith, number-one-line n);
+      left-fits = omega arith;
+      forbidden-fits = omega arith;
+      node-fits = omega arith;
+      chance-fits = omega arith;
+      quiet-fits = omega arith;
+      claim-fits = omega arith;
+      none-fits = omega arith;
+      ruin-fits = omega arith;
+    }

@@ -27,7 +27,7 @@ use Rattle.plain_engine.specs.Answers.{plain-refusal}
 use Rattle.plain_engine.proofs.Theorems.{Taken, taken}
 use Rattle.plain_engine.specs.Steps.{Terms}
 use Rattle.tree_nodes.specs.Nodes.{reached}
-use Rattle.tree_lines.specs.Lines.{node-text}
+use Rattle.tree_values.specs.Lines.{node-text}
 use Rattle.tree_text.specs.Tree.{small-plan, node-if, level-text, month-text, first-part, plan-part, accepted-part, tree-part}
 use Rattle.tree_text.specs.Terms.{SmallTerms}
 

@@ -1,5 +1,9 @@
 -- How long the text of a tree can get.
-use Prim.Native.Nat.{ℕ, zero, suc, _+_, _*_}
+use Prim.Native.Nat.{ℕ, zero, suc, _+_, _*_, _-_}
+use Prim.Native.Char.{code}
+use mathlib.Core.List.{List}
+use lib.Dec.{eqb}
+use Rattle.model.specs.Sums.{sum, count}
 use Rattle.model.specs.Limits.{max-small-months, max-small-opening}
 
 -- the most lines of one node at each of the levels 0 to n − 1: the node, its month's chance, the branch without a claim, a claim of each size up to the level,
@@ -18,3 +22,11 @@ tree-line-room = 70
 
 abbrev pub text-room : ℕ
 text-room = month-lines max-small-months * tree-line-room
+
+-- how many lines a text has
+unfoldable pub lines-in : List ℕ → ℕ
+lines-in text = count (λ byte. eqb byte (code "\n")) text
+
+-- the most lines of a tree
+unfoldable pub tree-lines : ℕ
+tree-lines = sum (max-small-months + 1) (λ t. month-lines (t - 1))

@@ -16,7 +16,7 @@ use Rattle.text.specs.Text.{joined}
 use Rattle.report_lines.specs.Lines.{refused-line}
 use Rattle.plain_engine.specs.Answers.{plain-refusal}
 use Rattle.tree_nodes.specs.Nodes.{reached}
-use Rattle.tree_lines.specs.Lines.{node-text}
+use Rattle.tree_values.specs.Lines.{node-text}
 
 -- a plan with an income of 1, from its parts
 abbrev pub small-plan : ℕ → List ℕ → List ℕ → ℕ → Plan

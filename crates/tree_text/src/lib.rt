@@ -76,10 +76,10 @@ fn put_plan(text: &mut [u8], head: Head, row: &[u32], question: Question, month:
         return put_first(text, month, wrong);
     }
     let months = head.months;
+    let end = months + head.sizes;
     if months < month {
         return 0;
     }
-    let end = months + head.sizes;
     put_month(
         text,
         question,

@@ -8,7 +8,7 @@ use Rattle.model.specs.declared.Rounding.the-variants.{Down}
 use Rattle.text.specs.Text.{ascii, line, Appended}
 use Rattle.text.proofs.TextLaws.{appended-more, room-first, room-rest, appended-as}
 use Rattle.plain_engine.proofs.ValueLaws.{later-terms}
-use Rattle.tree_lines.specs.Lines.{value-text, claim-texts, branch-texts}
+use Rattle.tree_values.specs.Lines.{value-text, claim-texts, branch-texts}
 use Rattle.tree_lines.proofs.LineLaws.{branch-parts}
 use borrow.Author.Needs.{needs}
 use Rattle.tree_lines.proofs.put_branches.Statement.{statement}

@@ -8,7 +8,7 @@ use Rattle.model.specs.MonthRule.{rule-of}
 use Rattle.text.specs.Text.{ascii, entry, line, Appended}
 use Rattle.text.proofs.TextLaws.{appended-more, room-first, room-rest, appended-nothing, appended-as}
 use Rattle.plain_engine.proofs.ValueLaws.{terms-below}
-use Rattle.tree_lines.specs.Lines.{value-text, claimed-text, claim-text}
+use Rattle.tree_values.specs.Lines.{value-text, claimed-text, claim-text}
 use Rattle.tree_lines.proofs.LineLaws.{claim-first, claim-empty, claim-filled, claimed-none, claimed-some}
 use borrow.Author.Needs.{needs}
 use Rattle.tree_lines.proofs.put_claim.Statement.{statement}

@@ -6,7 +6,7 @@ use borrow.Author.Needs.{needs}
 use lib.ListN.{length}
 use Rattle.text.specs.Text.{joined}
 use Rattle.text.proofs.TextLaws.{Appending, appending-start, appending-room, appending-turn, appending-done, appended-as}
-use Rattle.tree_lines.specs.Lines.{claim-each, claim-texts}
+use Rattle.tree_values.specs.Lines.{claim-each, claim-texts}
 use Rattle.tree_lines.proofs.put_claims.Statement.{statement}
 use Rattle.tree_lines.proofs.put_claims.Tie as tie
 

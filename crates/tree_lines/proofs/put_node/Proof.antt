@@ -9,7 +9,7 @@ use lib.ListN.{length}
 use Rattle.text.specs.Text.{ascii, entry, Appended}
 use Rattle.text.proofs.TextLaws.{appended-more, room-first, room-rest, appended-nothing, appended-as}
 use Rattle.tree_nodes.specs.Nodes.{node-allowed}
-use Rattle.tree_lines.specs.Lines.{value-text, branch-texts, node-text}
+use Rattle.tree_values.specs.Lines.{value-text, branch-texts, node-text}
 use Rattle.tree_lines.proofs.LineLaws.{below-last, below-forbidden, below-allowed}
 use borrow.Author.Needs.{needs}
 use Rattle.tree_lines.proofs.put_node.Statement.{statement}

@@ -21,29 +21,29 @@ use Rattle.tree_text.proofs.put_plan.Tie as tie
 abbrev start : tie.After-refusal → tie.Start
 start c = c .before .before .before
 
-abbrev taken-ask : tie.Else2 → tie.After-refusal
+abbrev taken-ask : tie.Else2 → tie.Else1
 taken-ask c = c .before .before
 
 abbrev lent : tie.After-put-month-arg2 → tie.Else2
-lent c = c .before .before .before
+lent c = c .before .before
 
 -- the plan is accepted by the plain engine, and has the month
 not-refused : (c : tie.Else1) → let a = start (c .before) .args in plain-refusal (record { head = a .head; question = a .question }) (a .row .now) ≡ 0
 not-refused c = sym (c .before .refusal .ensures) ∙ c .if1 .left
 
-known : (c : tie.Else2) → let a = start (taken-ask c) .args in Taken (record { head = a .head; question = a .question }) (a .row .now)
-known c = taken _ _ (not-refused (c .before))
+known : (c : tie.Else1) → let a = start (c .before) .args in Taken (record { head = a .head; question = a .question }) (a .row .now)
+known c = taken _ _ (not-refused c)
 
 terms :
-    (c : tie.Else2) → let a = start (taken-ask c) .args in
+    (c : tie.Else2) → let a = start (taken-ask c .before) .args in
     SmallTerms (a .question) (a .head .opening) (take (a .head .months) (a .row .now)) (take (a .head .months + a .head .sizes - a .head .months) (drop (a .head .months) (a .row .now))) (getD (a .row .now) (a .head .months + a .head .sizes) 0) (a .month)
-terms c = let a = start (taken-ask c) .args in terms-lent (a .question) (a .head) (a .row .now) (a .month) (known c) (c .if2 .left)
+terms c = let a = start (taken-ask c .before) .args in terms-lent (a .question) (a .head) (a .row .now) (a .month) (known (taken-ask c)) (c .if2 .left)
 
 -- the row has the chances, the weights and over
-within : (c : tie.Else2) → let a = start (taken-ask c) .args in a .head .months + a .head .sizes < length (a .row .now)
+within : (c : tie.Else1) → let a = start (c .before) .args in a .head .months + a .head .sizes < length (a .row .now)
 within c = omega (arith, facts _ _ (known c .accepted) .row-is)
 
-small : (c : tie.Else2) → let h = start (taken-ask c) .args .head in h .months + h .sizes ≤ max-small-months + max-sizes
+small : (c : tie.Else1) → let h = start (c .before) .args .head in h .months + h .sizes ≤ max-small-months + max-sizes
 small c = omega (arith, known c .months-few, head-facts _ (accepted-head _ _ (known c .accepted)) .sizes-fit)
 
 refusal-requires : tie.Need-refusal-requires
@@ -62,19 +62,19 @@ returns c =
     let a = start (then1 .before) .args in
     appended-as (accepted-refused (a .question) (a .head) (a .row .now) (a .month) (then1 .before .refusal .result) (then1 .before .refusal .ensures) (then1 .if1 .taken)) (put .put-first .ensures)
 
-returns-2 : tie.Need-returns-2
-returns-2 c =
-    let a = start (c .before .before) .args in
-    appended-as (beyond-months (a .question) (a .head) (a .row .now) (a .month) (not-refused (c .before)) (c .if2 .taken)) (appended-none (a .text .now) 0 (omega arith))
-
 add-end : tie.Need-add-end
 add-end c = omega (arith, within (c .before))
 
+returns-2 : tie.Need-returns-2
+returns-2 c =
+    let a = start (c .before .before .before) .args in
+    appended-as (beyond-months (a .question) (a .head) (a .row .now) (a .month) (not-refused (c .before .before)) (c .if2 .taken)) (appended-none (a .text .now) 0 (omega arith))
+
 slice-aggregate-put-month : tie.Need-slice-aggregate-put-month
-slice-aggregate-put-month c = let a = start (taken-ask (lent c)) .args in sym (length-take-le (a .head .months) (a .row .now) (omega (arith, within (lent c))))
+slice-aggregate-put-month c = let a = start (taken-ask (lent c) .before) .args in sym (length-take-le (a .head .months) (a .row .now) (omega (arith, within (taken-ask (lent c)))))
 
 mul-put-month : tie.Need-mul-put-month
-mul-put-month c = omega (arith, known (lent c) .months-few)
+mul-put-month c = omega (arith, known (taken-ask (lent c)) .months-few)
 
 sub-put-month : tie.Need-sub-put-month
 sub-put-month c = search needs
@@ -83,18 +83,18 @@ part-put-month-start : tie.Need-part-put-month-start
 part-put-month-start c = search needs
 
 part-put-month-end : tie.Need-part-put-month-end
-part-put-month-end c = omega (arith, within (lent c))
+part-put-month-end c = omega (arith, within (taken-ask (lent c)))
 
 mul-put-month-2 : tie.Need-mul-put-month-2
-mul-put-month-2 c = omega (arith, small (lent (c .before)))
+mul-put-month-2 c = omega (arith, small (taken-ask (lent (c .before))))
 
 shared-slice-read-put-month : tie.Need-shared-slice-read-put-month
-shared-slice-read-put-month c = within (lent (c .before .before))
+shared-slice-read-put-month c = within (taken-ask (lent (c .before .before)))
 
 put-month-requires : tie.Need-put-month-requires
 put-month-requires c κs =
     let else2 = lent (c .before .before) in
-    (terms else2, le-trans (month-room (terms else2)) (start (taken-ask else2) .pre .1))
+    (terms else2, le-trans (month-room (terms else2)) (start (taken-ask else2 .before) .pre .1))
 
 same-length-2 : tie.Need-same-length-2
 same-length-2 c = search needs
@@ -103,8 +103,8 @@ returns-3 : tie.Need-returns-3
 returns-3 c =
     let put = c .before .before in
     let else2 = lent (put .before .before .before) in
-    let a = start (taken-ask else2) .args in
-    appended-as (month-lent (a .question) (a .head) (a .row .now) (a .month) (not-refused (else2 .before)) (else2 .if2 .left)) (put .put-month .ensures)
+    let a = start (taken-ask else2 .before) .args in
+    appended-as (month-lent (a .question) (a .head) (a .row .now) (a .month) (not-refused (taken-ask else2)) (else2 .if2 .left)) (put .put-month .ensures)
 
 pub put-plan-spec : {M : Type 1} → statement M
 put-plan-spec =
@@ -114,8 +114,8 @@ put-plan-spec =
     put-first-requires
     same-length
     returns
-    returns-2
     add-end
+    returns-2
     slice-aggregate-put-month
     mul-put-month
     sub-put-month

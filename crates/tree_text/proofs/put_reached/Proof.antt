@@ -7,7 +7,7 @@ use lib.ListN.{length, take, drop, length-take}
 use lib.Seq.{length-take-le}
 use Rattle.text.proofs.TextLaws.{appended-nothing, appended-as}
 use Rattle.tree_nodes.specs.Nodes.{leads, reached}
-use Rattle.tree_lines.specs.Lines.{node-text}
+use Rattle.tree_values.specs.Lines.{node-text}
 use Rattle.tree_text.specs.Tree.{small-plan, node-if}
 use Rattle.tree_text.proofs.TreeLaws.{node-on, node-off, later-lent, node-terms}
 use borrow.Author.Needs.{needs}

@@ -45,7 +45,7 @@ value-Inv-loop question chances severity left level round later up quiet fewer m
     Summing (claim-term severity (rows-after round question severity (take (length chances - 1) (drop 1 chances)) fewer) level) most sum x
 
 abbrev value-μ-loop : value-lts.MeasureT-loop
-value-μ-loop question chances severity left level round later up quiet fewer most sum₀ x₀ sum x = most - x
+value-μ-loop question chances severity left level round later up quiet fewer most sum₀ x₀ sum x = most + 1 - x
 
 -- a place or a need of the function, at a measure
 abbrev At : (value-lts.Claims → In 2 value-kinds.ps → Out 2 value-kinds.ps value-kinds.r → value-lts.InvT-loop → value-lts.MeasureT-loop → Type 0) → ℕ → Type 0
@@ -68,16 +68,25 @@ some-month t c = omega arith
 terms : (t : ℕ) (c : At value-lts.Else1 t) → let a = start t c .args in Terms (a .severity .now) (a .chances .now) (a .level)
 terms t c = start t c .pre .1
 
--- a size that is followed has a weight, and leads to a level above 0
+-- with one month fewer to go
+value-value-requires : (t : ℕ) → At value-lts.Need-value-requires t
+value-value-requires t c κs =
+    let from = start t (c .before) in
+    let a = from .args in (
+      omega (arith, from .pre .0, fewer-months (a .chances .now), some-month t (c .before)),
+      later-terms (a .round) (a .question) (a .severity .now) (a .chances .now) (a .level) (terms t (c .before)) (some-month t (c .before)) _ (omega arith),
+    )
+
+-- a size that is followed has a weight, and does not ruin
 inside :
     (t : ℕ) (c : At value-lts.In-loop t) →
     let a = start t (months-left t (c .before .before)) .args in
-    (c .before .loop .x < a .level) × (c .before .loop .x < length (a .severity .now))
+    (0 < c .before .loop .x) × (c .before .loop .x ≤ a .level) × (c .before .loop .x ≤ length (a .severity .now))
 inside t c =
     let at = c .before .before in
     let a = start t (months-left t at) .args in
     let all = followed-within (rule-of (a .question) .after-claim (a .left)) (at .before .lesser .result) in
-    (omega (arith, c .loop-test .taken, at .followed .ensures, at .before .lesser .ensures, all), omega (arith, c .loop-test .taken, at .followed .ensures, at .before .lesser .ensures, all))
+    (c .before .loop .inv .some, omega (arith, c .loop-test .taken, at .followed .ensures, at .before .lesser .ensures, all), omega (arith, c .loop-test .taken, at .followed .ensures, at .before .lesser .ensures, all))
 
 -- the sum over all sizes that are followed is the claim sum
 whole :
@@ -105,11 +114,11 @@ added t c =
     let later = take (length (a .chances .now) - 1) (drop 1 (a .chances .now)) in
     let fewer = loop .before .before .before .claims-after .result in
     let down = c .before .level-value2 in
-    let read = level-is (a .round) (a .question) (a .severity .now) later fewer (a .level - loop .loop .x) _ (down .result) (down .ensures) (c .before .before .before .value2 .ensures) in
+    let read = level-is (a .round) (a .question) (a .severity .now) later fewer (a .level + small-income - loop .loop .x) _ (down .result) (down .ensures) (c .before .before .before .value2 .ensures) in
     let more =
     summing-turn (claim-term (a .severity .now) (rows-after (a .round) (a .question) (a .severity .now) later fewer) (a .level)) (loop .before .followed .result) (loop .loop .sum) (loop .loop .x)
     (c .product .result) (turn t c .loop-test .taken)
-    (term-is (a .severity .now) (rows-after (a .round) (a .question) (a .severity .now) later fewer) (a .level) (loop .loop .x) (down .result) (c .product .result) (c .product .ensures) read)
+    (term-is (a .severity .now) (rows-after (a .round) (a .question) (a .severity .now) later fewer) (a .level) (loop .loop .x) (down .result) (c .product .result) (loop .loop .inv .some) (c .product .ensures) read)
     (loop .loop .inv) in
     (omega (arith, more .0, whole t (loop .before), sum-fits (a .round) (a .question) (a .severity .now) (a .chances .now) (a .level) (terms t else1) (a .left)), more .1)
 
@@ -153,14 +162,6 @@ value-part-later-end t c = search needs
 value-add-up : (t : ℕ) → At value-lts.Need-add-up t
 value-add-up t c = omega (arith, terms t (c .before) .levels-fit, some-month t (c .before))
 
-value-value-requires : (t : ℕ) → At value-lts.Need-value-requires t
-value-value-requires t c κs =
-    let from = start t (c .before) in
-    let a = from .args in (
-      omega (arith, from .pre .0, fewer-months (a .chances .now), some-month t (c .before)),
-      later-terms (a .round) (a .question) (a .severity .now) (a .chances .now) (a .level) (terms t (c .before)) (some-month t (c .before)) _ (omega arith),
-    )
-
 value-level-value-requires : (t : ℕ) → At value-lts.Need-level-value-requires t
 value-level-value-requires t c κs = tt
 
@@ -175,10 +176,10 @@ value-followed-requires t c κs = tt
 
 value-loop-holds : (t : ℕ) → At value-lts.Need-loop-holds t
 unfolding sum
-value-loop-holds t c = record { within = omega arith; is = refl }
+value-loop-holds t c = record { some = omega arith; within = omega arith; is = refl }
 
 value-sub-down : (t : ℕ) → At value-lts.Need-sub-down t
-value-sub-down t c = omega (arith, inside t c .0)
+value-sub-down t c = omega (arith, inside t c .1)
 
 value-value-requires-2 : (t : ℕ) → At value-lts.Need-value-requires-2 t
 value-value-requires-2 t c κs =
@@ -189,11 +190,14 @@ value-value-requires-2 t c κs =
       later-terms (a .round) (a .question) (a .severity .now) (a .chances .now) (a .level) (terms t else1) (some-month t else1) _ (omega arith),
     )
 
+value-sub-product : (t : ℕ) → At value-lts.Need-sub-product t
+value-sub-product t c = inside t (c .before) .0
+
 value-mul-product : (t : ℕ) → At value-lts.Need-mul-product t
-value-mul-product t c = omega (arith, inside t (c .before) .1)
+value-mul-product t c = omega (arith, inside t (c .before))
 
 value-shared-slice-read-product : (t : ℕ) → At value-lts.Need-shared-slice-read-product t
-value-shared-slice-read-product t c = inside t (c .before .before) .1
+value-shared-slice-read-product t c = omega (arith, inside t (c .before .before))
 
 value-level-value-requires-2 : (t : ℕ) → At value-lts.Need-level-value-requires-2 t
 value-level-value-requires-2 t c κs = tt
@@ -206,10 +210,10 @@ unfolding S
 value-add-sum t c = omega (arith, added t c .0)
 
 value-add-x : (t : ℕ) → At value-lts.Need-add-x t
-value-add-x t c = search needs
+value-add-x t c = omega (arith, inside t (turn t c) .1, terms t (months-left t (turn t c .before .before)) .levels-fit)
 
 value-loop-less : (t : ℕ) → At value-lts.Need-loop-less t
-value-loop-less t c = search needs
+value-loop-less t c = omega (arith, turn t c .loop-test .taken)
 
 value-loop-again : (t : ℕ) → At value-lts.Need-loop-again t
 value-loop-again t c = added t c .1
@@ -263,6 +267,7 @@ pub +value-spec : {M : Type 1} → statement M
     (value-loop-holds t)
     (value-sub-down t)
     (value-value-requires-2 t)
+    (value-sub-product t)
     (value-mul-product t)
     (value-shared-slice-read-product t)
     (value-level-value-requires-2 t)

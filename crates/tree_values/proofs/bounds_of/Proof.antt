@@ -2,10 +2,10 @@
 use mathlib.Core.Path.{ap₂}
 use Prim.Native.Nat.{ℕ}
 use Rattle.model.specs.MonthRule.{kept}
-use Rattle.tree_lines.specs.Lines.{node-value}
+use Rattle.tree_values.specs.Lines.{node-value}
 use borrow.Author.Needs.{needs}
-use Rattle.tree_lines.proofs.bounds_of.Statement.{statement}
-use Rattle.tree_lines.proofs.bounds_of.Tie as tie
+use Rattle.tree_values.proofs.bounds_of.Statement.{statement}
+use Rattle.tree_values.proofs.bounds_of.Tie as tie
 
 node-allowed-requires : tie.Need-node-allowed-requires
 node-allowed-requires c κs = search needs

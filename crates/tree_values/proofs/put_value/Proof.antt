@@ -1,8 +1,8 @@
 -- `put_value` meets its contract.
-use Rattle.tree_lines.specs.Lines.{value-text}
+use Rattle.tree_values.specs.Lines.{value-text}
 use borrow.Author.Needs.{needs}
-use Rattle.tree_lines.proofs.put_value.Statement.{statement}
-use Rattle.tree_lines.proofs.put_value.Tie as tie
+use Rattle.tree_values.proofs.put_value.Statement.{statement}
+use Rattle.tree_values.proofs.put_value.Tie as tie
 
 bounds-of-requires : tie.Need-bounds-of-requires
 bounds-of-requires c κs = search needs

@@ -1,9 +1,9 @@
 -- `put_left` meets its contract, case by case.
 use Rattle.text.proofs.TextLaws.{appended-nothing}
-use Rattle.tree_lines.proofs.LineLaws.{left-both, left-survive, left-high, left-low}
+use Rattle.tree_values.proofs.ValueLines.{left-both, left-survive, left-high, left-low}
 use borrow.Author.Needs.{needs}
-use Rattle.tree_lines.proofs.put_left.Statement.{statement}
-use Rattle.tree_lines.proofs.put_left.Tie as tie
+use Rattle.tree_values.proofs.put_left.Statement.{statement}
+use Rattle.tree_values.proofs.put_left.Tie as tie
 
 enum-told : tie.Need-enum-told
 enum-told c = search needs

@@ -6,11 +6,11 @@ use mathlib.Core.List.{List, [], _∷_, _++_}
 use lib.ListN.{length}
 use Rattle.text.specs.Text.{entry, Appended}
 use Rattle.text.proofs.TextLaws.{appended-more, room-first, room-rest}
-use Rattle.tree_lines.specs.Lines.{left-text, place-text}
-use Rattle.tree_lines.proofs.LineLaws.{value-line, value-room, value-put}
+use Rattle.tree_values.specs.Lines.{left-text, place-text}
+use Rattle.tree_values.proofs.ValueLines.{value-line, value-room, value-put}
 use borrow.Author.Needs.{needs}
-use Rattle.tree_lines.proofs.put_place.Statement.{statement}
-use Rattle.tree_lines.proofs.put_place.Tie as tie
+use Rattle.tree_values.proofs.put_place.Statement.{statement}
+use Rattle.tree_values.proofs.put_place.Tie as tie
 
 -- the places after the calls, each from the next
 abbrev start : tie.After-put-entry → tie.Start

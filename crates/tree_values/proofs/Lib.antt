@@ -1,0 +1,3 @@
+-- Laws of a node's value as text, and what the lines of a node say together.
+pub mod ValueLines
+pub mod Theorems
