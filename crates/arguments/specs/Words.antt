@@ -7,7 +7,7 @@ use Rattle.model.specs.declared.Question.{Question}
 use Rattle.model.specs.declared.Question.the-variants.{Survive, Both, High, Low}
 use Rattle.text.specs.Text.{ascii}
 use Rattle.arguments.specs.declared.Asked.{Asked}
-use Rattle.arguments.specs.Numbers.{is-number, number-of}
+use Rattle.arguments.specs.Numbers.{number-of}
 
 -- whether two words are the same, byte by byte
 unfoldable pub same-word : List ℕ → List ℕ → Bool

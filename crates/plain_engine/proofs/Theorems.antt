@@ -4,19 +4,19 @@ use mathlib.Core.Path.{_≡_, refl, sym, _∙_, ap}
 use mathlib.Core.Bool.{Bool, true, false, not, _||_}
 use mathlib.Core.List.{List}
 use native.Mathlib.Omega.{arith}
-use lib.Dec.{ltb, eqb}
-use lib.ListN.{length, take, drop, length-take}
+use lib.Dec.{ltb}
+use lib.ListN.{take, drop, length-take}
 use borrow.Author.Tests.{ltb-false, eqb-true, ne-eqb}
 use Rattle.model.specs.declared.Head.{Head}
 use Rattle.model.specs.declared.Ask.{Ask}
 use Rattle.model.specs.declared.Question.{Question}
 use Rattle.model.specs.declared.Rounding.{Rounding}
 use Rattle.model.specs.Limits.{max-small-months, max-small-opening, small-income}
-use Rattle.model.specs.Plan.{plan-of, row-length}
+use Rattle.model.specs.Plan.{plan-of}
 use Rattle.model.specs.MonthRule.{kept, month, values, value, rule-of, last-of, claims-of, opening-allowed}
 use Rattle.model.specs.Bounds.{bound, lower, upper, EnclosesQuestion}
-use Rattle.model.specs.Refusal.{Accepted, first, outside, asked-checks, workspace-needed, ask-refusal}
-use Rattle.model.proofs.Facts.{neither, facts, accepted-head, head-facts, horizon-is}
+use Rattle.model.specs.Refusal.{Accepted, first, outside, asked-checks, workspace-needed}
+use Rattle.model.proofs.Facts.{neither}
 use Rattle.model.proofs.Theorems.{severity-fits, chances-fit, enclosure}
 use Rattle.questions.proofs.RefusalLaws.{asked-inside, not-refused}
 use Rattle.engine.specs.declared.Answer.{Answer}

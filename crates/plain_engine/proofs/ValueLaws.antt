@@ -1,12 +1,11 @@
 -- Laws of one value: what a claim leads to, the sum over the sizes as it is added up, and the value before a month.
-use mathlib.Core.Path.{_≡_, refl, sym, _∙_, ap, ap₂}
+use mathlib.Core.Path.{_≡_, refl, sym, _∙_, ap}
 use mathlib.Core.Bool.{cond}
 use mathlib.Core.Logic.{⊎-elim}
-use mathlib.Core.List.{List, [], _∷_}
+use mathlib.Core.List.{List}
 use mathlib.Core.Option.{Option, none, some}
 use Prim.Native.Nat.{ℕ, zero, suc, _+_, _*_, _-_, _/_, _%_, _≤_, zero-le, _<_, min}
-use native.Mathlib.Nat.{div-add-mod', eq-or-lt-of-le, mul-le-mul}
-use native.Mathlib.Numerals.{add-one}
+use native.Mathlib.Nat.{div-add-mod', eq-or-lt-of-le}
 use native.Mathlib.Omega.{arith}
 use lib.ListN.{length, getD, take, drop, length-drop}
 use lib.Seq.{getD-drop, length-take-le}
@@ -14,11 +13,11 @@ use Rattle.model.specs.declared.Rounding.{Rounding}
 use Rattle.model.specs.declared.Question.{Question}
 use Rattle.model.specs.Limits.{small-income}
 use Rattle.model.specs.Scale.{S, quotient}
-use Rattle.model.specs.Sums.{sum, total}
+use Rattle.model.specs.Sums.{sum}
 use Rattle.model.specs.Plan.{nth}
 use Rattle.model.specs.MonthRule.{Row, claim-sum, exact-month, month, kept, claimed-row, month-back, values, all-placed, one-fewer, rule-of, last-of}
 use Rattle.model.proofs.SumLaws.{sum-last}
-use Rattle.model.proofs.Month.{claim-sum-zero, claim-sum-fits}
+use Rattle.model.proofs.Month.{claim-sum-zero}
 use Rattle.model.proofs.Values.{first-and-rest, take-fits, kept-fits, values-fit, last-fits, months-fit}
 use Rattle.plain_engine.specs.Steps.{left-after, sizes-followed, Terms}
 

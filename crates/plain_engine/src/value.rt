@@ -32,6 +32,7 @@ pub fn value(
     if chances.len() < 1 {
         return last_value(question, left);
     }
+    // A month without a claim leads to s + 1, and a claim of size x, which ruins where it is above s, to s + 1 − x.
     let later = &chances[1..];
     let up = level + 1;
     let quiet = level_value(
@@ -49,6 +50,7 @@ pub fn value(
         sum += product(severity[x - 1], level_value(question, down, after));
         x += 1;
     }
+    // The sum is divided by S, document 01's A; what is left over goes into the month's one rounding.
     month_value(chances[0], quiet, sum / WIDE_SCALE, sum % WIDE_SCALE, round)
 }
 
@@ -69,6 +71,7 @@ pub fn opening_value(
     taken(opening_allowed(question, opening), value)
 }
 
+// How many claims are to be placed at the opening.
 pub fn claims_to_place(question: Question) -> usize
     ensures { λ r. ⌜ r ≡ claims-of question ⌝ }
 {

@@ -3,22 +3,20 @@ use mathlib.Core.Path.{_≡_, refl, _∙_, ap}
 use mathlib.Core.Bool.{Bool, true, false, cond}
 use mathlib.Core.List.{List, [], _∷_, _++_}
 use mathlib.Core.Option.{Option, none, some}
-use Prim.Native.Nat.{ℕ, zero, suc, _+_, _-_, _≤_, _<_}
+use Prim.Native.Nat.{ℕ, suc, _+_, _-_, _<_}
 use native.Mathlib.Numerals.{add-one}
 use native.Mathlib.Omega.{arith}
 use lib.ListN.{length, getD, take, drop}
 use borrow.Author.Tests.{lt-ltb}
 use Rattle.model.specs.declared.Question.{Question}
-use Rattle.model.specs.declared.Question.the-variants.{Survive, Both, High, Low}
-use Rattle.model.specs.declared.Bounds.{Bounds}
 use Rattle.model.specs.Limits.{small-income}
 use Rattle.model.specs.Plan.{nth}
 use Rattle.model.specs.MonthRule.{rule-of, ruin-weight}
 use Rattle.model.proofs.Facts.{not-zero}
 use Rattle.model.proofs.Values.{no-chances, first-and-rest}
 use Rattle.plain_engine.specs.Steps.{left-after, sizes-followed}
-use Rattle.text.specs.Text.{ascii, entry, line, Appended}
-use Rattle.tree_values.specs.Lines.{left-text, value-text, claimed-text, claim-text, claim-texts, branch-texts}
+use Rattle.text.specs.Text.{ascii, entry, line}
+use Rattle.tree_values.specs.Lines.{value-text, claimed-text, claim-text, claim-texts, branch-texts}
 
 -- the parts of a claim's line: of an empty size there is none
 abbrev pub claim-first : ℕ → ℕ → List ℕ

@@ -1,6 +1,6 @@
 -- Which nodes there can be: after t months no level is above u + t, no more claims are left than are asked, and at most t fewer.
 use Prim.Native.Nat.{ℕ, zero, suc, _+_, _*_, _-_, _≤_, _<_, min}
-use mathlib.Core.Path.{_≡_, refl, sym, _∙_, ap, ap₂}
+use mathlib.Core.Path.{_≡_, refl, ap₂}
 use mathlib.Core.Bool.{Bool, true, false, _&&_, _||_}
 use mathlib.Core.List.{List, [], _∷_}
 use mathlib.Core.Option.{Option, none, some}
@@ -12,7 +12,6 @@ use Rattle.model.specs.declared.Question.{Question}
 use Rattle.model.specs.declared.Question.the-variants.{Survive, Both, High, Low}
 use Rattle.model.specs.Limits.{small-income}
 use Rattle.model.specs.Scale.{S}
-use Rattle.model.specs.Sums.{any, one-to}
 use Rattle.model.specs.Plan.{Plan, nth}
 use Rattle.model.specs.MonthRule.{rule-of, claims-of, one-fewer}
 use Rattle.model.proofs.SumLaws.{none-to}

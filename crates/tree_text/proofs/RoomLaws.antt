@@ -1,12 +1,12 @@
 -- How long the text of a tree can get, by any measure of texts that adds up: its bytes, and its lines.
 use Prim.Native.Nat.{ℕ, zero, suc, _+_, _*_, _-_, _/_, _≤_, zero-le, _<_, min}
-use mathlib.Core.Path.{_≡_, refl, sym, _∙_, ap, ap₂}
+use mathlib.Core.Path.{_≡_, refl, sym, _∙_, ap}
 use mathlib.Core.Bool.{Bool, true, false, cond}
 use mathlib.Core.List.{List, [], _∷_, _++_}
 use mathlib.Core.Option.{Option, none, some}
-use native.Mathlib.Nat.{mul-le-mul-right, mul-le-mul, add-mul, suc-mul, mul-assoc, mul-comm, zero-mul, le-trans}
+use native.Mathlib.Nat.{mul-le-mul-right, mul-le-mul, add-mul, suc-mul, mul-assoc, mul-comm, le-trans}
 use native.Mathlib.Omega.{arith}
-use lib.Dec.{leb, eqb, ltb}
+use lib.Dec.{leb, ltb}
 use lib.ListN.{length, getD, drop, length-append}
 use lib.Seq.{getD-drop}
 use borrow.Author.Tests.{ne-eqb}
@@ -14,11 +14,11 @@ use Rattle.model.specs.declared.Question.{Question}
 use Rattle.model.specs.declared.Question.the-variants.{Survive, Both, High, Low}
 use Rattle.model.specs.declared.Rounding.{Rounding}
 use Rattle.model.specs.declared.Rounding.the-variants.{Down, Up}
-use Rattle.model.specs.Limits.{small-income, max-small-months, max-small-opening, max-claims}
+use Rattle.model.specs.Limits.{small-income, max-small-months, max-small-opening}
 use Rattle.model.specs.Scale.{S}
 use Rattle.model.specs.Sums.{total, count}
 use Rattle.model.specs.Plan.{nth}
-use Rattle.model.specs.MonthRule.{rule-of, last-of, claims-of, opening-allowed, one-fewer, ruin-weight, values, month}
+use Rattle.model.specs.MonthRule.{rule-of, last-of, claims-of, opening-allowed, ruin-weight, month}
 use Rattle.model.proofs.Values.{kept-fits, values-fit, last-fits}
 use Rattle.model.proofs.FirstRuin.{ruin-weight-fits}
 use Rattle.text.specs.Text.{ascii, last-digit, digits, decimal, spaced, joined, entry, line}

@@ -22,7 +22,7 @@ use Rattle.report_lines.specs.Lines.{refused-line}
 use Rattle.text.specs.Text.{ascii, joined}
 use Rattle.plain_engine.specs.Answers.{plain-refusal}
 use Rattle.plain_engine.proofs.Theorems.{taken}
-use Rattle.tree_text.specs.Tree.{first-part, accepted-part, tree-part, parts, tree-of}
+use Rattle.tree_text.specs.Tree.{first-part, accepted-part, tree-part, tree-parts, tree-of}
 use Rattle.tree_text.specs.Rooms.{level-lines, month-lines, lines-in, tree-lines}
 use Rattle.tree_text.proofs.TreeLaws.{part-refused, part-read, accepted-refused, beyond-months, month-lent, terms-lent}
 use Rattle.tree_text.proofs.RoomLaws.{line-cost-one, month-cost, lines-append, number-one-line, line-costs, lines-rise}
@@ -84,10 +84,10 @@ parts-lines q bytes (suc n) =
     let here : suc n - 1 ≡ n = omega arith in
     omega (arith, lines-append (joined n (tree-part q bytes)) (tree-part q bytes n), parts-lines q bytes n, part-lines q bytes n, rw here at (sum-last n (λ t. month-lines (t - 1))))
 
--- "At most a few thousand lines, whatever the plan"
+-- at most a few thousand lines, whatever the plan
 pub most-lines : (q : Question) (bytes : List ℕ) → lines-in (tree-of q bytes) ≤ tree-lines
 unfolding tree-of tree-lines
-most-lines q bytes = parts-lines q bytes parts
+most-lines q bytes = parts-lines q bytes tree-parts
 
 pub lines-figure : tree-lines ≡ 2814
 unfolding tree-lines sum level-lines

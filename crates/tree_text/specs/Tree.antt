@@ -1,5 +1,5 @@
--- The tree of a small plan as text, from the plan's bytes and the definitions of the model: the nodes "month by month from 0, in each month from the highest level
--- down, for both from the most claims left to none".
+-- The tree of a small plan as text, from the plan's bytes and the definitions of the model. Document 02: "Our newer planners follow a plan by paper and want to see
+-- the tree." The nodes come month by month, in each month from the highest level down, for both from the most claims left to none.
 use Prim.Native.Nat.{ℕ, _+_, _-_, min}
 use mathlib.Core.Bool.{cond}
 use mathlib.Core.List.{List, []}
@@ -60,8 +60,8 @@ tree-part q bytes t =
     (first-part t (refused-line (read-refusal bytes row-room)))
 
 -- the whole text
-abbrev pub parts : ℕ
-parts = max-small-months + 1
+abbrev pub tree-parts : ℕ
+tree-parts = max-small-months + 1
 
 unfoldable pub tree-of : Question → List ℕ → List ℕ
-tree-of q bytes = joined parts (tree-part q bytes)
+tree-of q bytes = joined tree-parts (tree-part q bytes)

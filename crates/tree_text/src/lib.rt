@@ -3,6 +3,7 @@ use codec::read_plan;
 use model::Ask;
 use model::Head;
 use model::Question;
+use model::limits;
 use numbers::lesser;
 use plain_engine::refusal;
 use plain_engine::value::claims_to_place;
@@ -26,7 +27,7 @@ ghost use Rattle.tree_text.specs.Terms.{SmallTerms};
 pub const TEXT: usize = 65536;
 
 // How many parts a tree has: one for each month that a small plan can have, and one before the first.
-pub const PARTS: usize = 7;
+pub const PARTS: usize = limits::SMALL_MONTHS + 1;
 
 // Writes a part of a plan's tree to the start of the text, past which nothing changes, and answers how long it is: the nodes after so many months. A refusal is
 // the first part, the one of no months, and all others are empty, as those of months that the plan does not have. `within` is for a caller that takes the

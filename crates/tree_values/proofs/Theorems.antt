@@ -13,7 +13,7 @@ use Rattle.model.specs.Limits.{small-income}
 use Rattle.model.specs.Scale.{S, quotient}
 use Rattle.model.specs.Sums.{total}
 use Rattle.model.specs.Plan.{plan-of}
-use Rattle.model.specs.MonthRule.{Row, claim-sum, exact-month, month, kept, claimed-row, month-back, values, rule-of, last-of, claims-of, ruin-weight}
+use Rattle.model.specs.MonthRule.{Row, claim-sum, exact-month, month, kept, claimed-row, month-back, values, rule-of, claims-of, ruin-weight}
 use Rattle.model.specs.FilledSizes.{filled-sum}
 use Rattle.model.specs.Bounds.{bound}
 use Rattle.model.specs.Refusal.{Accepted}
@@ -28,7 +28,7 @@ use Rattle.tree_values.specs.Lines.{node-value}
 abbrev pub claimed-value : Rounding → Question → List ℕ → ℕ → List ℕ → ℕ → Row
 claimed-value round q F t later k = claimed-row (λ j. node-value round q F (suc t) later j) (rule-of q .after-claim k)
 
--- "What a person needs to work the value out again": a node's value, where it is followed, is the exact quotient by S × S of the values on the lines below it, rounded once.
+-- A node's value, where it is followed, is the exact quotient by S × S of the values on the lines below it, rounded once: what a person needs to work it out again.
 -- The filled sum is over the sizes that have a line.
 pub value-follows :
     (round : Rounding) (q : Question) (F : List ℕ) (t P : ℕ) (later : List ℕ) (k s : ℕ) → node-allowed q t s ≡ true →

@@ -1,15 +1,14 @@
 -- The proof of the cycle of calls {value}: the months left fall by one. A value is that of its month, over the values that it asks for.
 use Prim.Native.Nat.{ℕ, _+_, _*_, _-_, _/_, _%_, _<_, _≤_}
-use mathlib.Core.Path.{_≡_, refl, sym, _∙_, ap}
+use mathlib.Core.Path.{_≡_, refl, _∙_}
 use native.Mathlib.Nat.{div-add-mod'}
 use native.Mathlib.Omega.{arith}
 use borrow.Author.Needs.{needs}
-use lib.ListN.{length, getD, take, drop}
+use lib.ListN.{length, take, drop}
 use Rattle.model.specs.Scale.{S}
 use Rattle.model.specs.Sums.{sum}
 use Rattle.model.specs.MonthRule.{claim-sum, claimed-row, values, rule-of}
 use Rattle.model.specs.Limits.{small-income}
-use Rattle.model.proofs.Month.{scale-positive}
 use Rattle.model.proofs.Values.{no-chances}
 use Rattle.plain_engine.specs.Steps.{Terms}
 use Rattle.plain_engine.proofs.ValueLaws.{followed-within, rows-after, claim-term, followed-sum, term-is, Summing, summing-turn, summing-end, fewer-months, later-terms, row-fits, sum-fits, level-is, value-is}
