@@ -2,7 +2,7 @@
 import random
 from fractions import Fraction
 
-from rules import CLAIMS, LARGEST, MONTHS, OPENING, SIZES, SURVIVE, Head, Question, S, all_months, largest_level
+from rules import CLAIMS, LARGEST, MONTHS, OPENING, SIZES, SMALL_MONTHS, SMALL_OPENING, SURVIVE, Head, Question, S, all_months, largest_level
 
 # ---- Document 01's plans
 
@@ -155,3 +155,9 @@ def timed_plans():
         "ten-filled": (LARGEST, chances + [shares.get(x, 0) for x in range(1, SIZES + 1)] + [0]),
         "no-chance": (LARGEST, [0] * MONTHS + table),
     }
+
+
+def timed_small_plan():
+    """The largest head that has a tree, with the first months and the table of the first of these."""
+    head, row = timed_plans()["none-empty"]
+    return head._replace(months=SMALL_MONTHS, opening=SMALL_OPENING), row[:SMALL_MONTHS] + row[MONTHS:]

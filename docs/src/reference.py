@@ -12,7 +12,8 @@ Written from these documents and their sources alone, not from the engine or its
   reference.py cases              one line for each line of that stdout: what was called
   reference.py repeat WORD K N    N times one question, failing in month K, the least opening for the target K or, whatever K, all openings, on the
                                   largest plan, as that program's input, to time it; a last word may name another of the plans below
-  reference.py plans DIR          three plans as large as can be, to time: DIR/none-empty (that plan), DIR/ten-filled, DIR/no-chance
+  reference.py plans DIR          three plans as large as can be, to time: DIR/none-empty (that plan), DIR/ten-filled, DIR/no-chance; and
+                                  DIR/small, the largest that has a tree
   reference.py example DIR        DIR/stdin and DIR/stdout of the reserve report: document 01's example
   reference.py reports DIR        DIR/stdin and DIR/stdout of many reserve reports, the largest included: takes minutes
   reference.py sheet KIND N U M FIRST STEP ALPHA
@@ -37,7 +38,7 @@ from pathlib import Path
 
 from cases import all_calls, repeated_calls, reported_bytes, small_bytes
 from old_plans import renewed
-from plans import EXAMPLE_BYTES, EXAMPLE_TEXT, timed_plans
+from plans import EXAMPLE_BYTES, EXAMPLE_TEXT, timed_plans, timed_small_plan
 from records import plan_list, tree_record
 from rules import Head, Question, byte_length, least_line, openings_text, refusal, report, target_of, write_bytes, write_checks
 from selftest import selftest
@@ -77,13 +78,17 @@ def print_cases():
         print(f"{label}: {line}")
 
 
+def plans_to_time():
+    return {**timed_plans(), "small": timed_small_plan()}
+
+
 def write_plans(folder):
-    for name, plan in timed_plans().items():
+    for name, plan in plans_to_time().items():
         Path(folder, name).write_bytes(write_bytes(*plan))
 
 
 def print_repeat(word, number, times, plan="none-empty"):
-    calls = repeated_calls(Question(word, int(number)), int(times), timed_plans()[plan])
+    calls = repeated_calls(Question(word, int(number)), int(times), plans_to_time()[plan])
     sys.stdout.buffer.write(b"".join(calls.records))
 
 
