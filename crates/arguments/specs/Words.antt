@@ -1,4 +1,4 @@
--- A question as it is asked of a program: "the question as arguments in the report's words".
+-- A question as it is asked of a program, in arguments that have the report's words.
 use Prim.Native.Nat.{ℕ}
 use mathlib.Core.Bool.{Bool, true, false, not, _&&_, _||_, cond}
 use mathlib.Core.List.{List, [], _∷_}

@@ -16,19 +16,10 @@ use Rattle.model.specs.Refusal.{plan-refusal, Accepted}
 use Rattle.model.proofs.Facts.{facts, horizon-is}
 use Rattle.model.proofs.Counts.{getD-tabulate}
 use Rattle.count_row.specs.declared.CountAnswer.{CountAnswer}
-use Rattle.engine.specs.Answers.{refused, bounds-answer, answer, ruin-answer}
+use Rattle.engine.specs.Answers.{answer, ruin-answer}
+use Rattle.engine.proofs.AnswerLaws.{number-is, bounds-are}
 use Rattle.count_row.specs.Answers.{count-rows, count-refused, count-answer}
 use Rattle.questions.proofs.RefusalLaws.{asked, month-inside}
-
--- an answer gives its refusal's number, and its bounds where that is 0
-number-is : (number low high : ℕ) → bounds-answer number low high .refusal ≡ number
-unfolding bounds-answer refused
-number-is zero low high = refl
-number-is (suc n) low high = rw (ne-eqb (suc n) 0 (λ z. omega (arith, z)))
-
-bounds-are : (number low high : ℕ) → bounds-answer number low high .refusal ≡ 0 → (bounds-answer number low high .lower ≡ low) × (bounds-answer number low high .upper ≡ high)
-unfolding bounds-answer
-bounds-are number low high e = rw (sym (number-is number low high) ∙ e) (refl, refl)
 
 -- What is known of an ask that was not refused: its plan is accepted, and it answers the definition's bounds …
 pub record Answered (a : Ask) (row : List ℕ) (room : ℕ) : Type 0 where

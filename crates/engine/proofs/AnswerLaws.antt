@@ -62,6 +62,16 @@ answered-out r number m needed ws ws′ e worked el eh cleared em encloses = (
   ),
 )
 
+-- an answer gives its refusal's number, and its bounds where that is 0
+pub number-is : (number low high : ℕ) → bounds-answer number low high .refusal ≡ number
+unfolding bounds-answer refused
+number-is zero low high = refl
+number-is (suc n) low high = rw (ne-eqb (suc n) 0 (λ z. omega (arith, z)))
+
+pub bounds-are : (number low high : ℕ) → bounds-answer number low high .refusal ≡ 0 → (bounds-answer number low high .lower ≡ low) × (bounds-answer number low high .upper ≡ high)
+unfolding bounds-answer
+bounds-are number low high e = rw (sym (number-is number low high) ∙ e) (refl, refl)
+
 -- the answer that the bounds give
 pub answer-worked : (low high low′ high′ : ℕ) → low ≡ low′ → high ≡ high′ → _≡_ {A = Answer} (record { refusal = 0; lower = low; upper = high }) (bounds-answer 0 low′ high′)
 unfolding bounds-answer

@@ -133,7 +133,7 @@ module _ {rel : ℕ → ℕ → Type 0} {round : Rounding} (d : Direction rel ro
       C = claim-sum F Y (s + income)
 
 -- one weight is at most all of them
-nth-le-total : (F : List ℕ) (x : ℕ) → nth F x ≤ total F
+pub nth-le-total : (F : List ℕ) (x : ℕ) → nth F x ≤ total F
 unfolding nth total
 nth-le-total F zero = omega arith
 nth-le-total [] (suc i) = omega arith

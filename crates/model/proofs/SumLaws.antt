@@ -58,6 +58,12 @@ unfolding total
 total-map-plus f g [] = refl
 total-map-plus f g (x ∷ xs) = omega (arith, total-map-plus f g xs)
 
+-- those of two lists that pass a test
+pub count-append : (test : ℕ → Bool) (xs ys : List ℕ) → count test (xs ++ ys) ≡ count test xs + count test ys
+unfolding count
+count-append test [] ys = omega arith
+count-append test (x ∷ xs) ys = omega (arith, count-append test xs ys)
+
 -- what is left of a list adds up to no more than all of it
 pub total-drop-le : (j : ℕ) (xs : List ℕ) → total (drop j xs) ≤ total xs
 unfolding total

@@ -4,7 +4,7 @@ use mathlib.Core.Bool.{Bool, true, false, cond}
 use mathlib.Core.List.{List, [], _∷_, _++_}
 use mathlib.Core.Option.{Option, none, some}
 use Prim.Native.Nat.{ℕ, zero, suc, _+_, _*_, _-_, _^_, _≤_, zero-le, _<_}
-use native.Mathlib.Nat.{pow-zero, add-mul, mul-assoc, one-mul, zero-mul, zero-add, le-refl}
+use native.Mathlib.Nat.{pow-zero, add-mul, mul-assoc, one-mul, zero-mul, le-refl}
 use native.Mathlib.Omega.{arith}
 use lib.ListN.{length, getD, take, drop, length-take, take-append-drop}
 use lib.Seq.{getD-drop, drop-drop, take-all}
@@ -13,11 +13,11 @@ use Rattle.model.specs.declared.Rounding.the-variants.{Down, Up}
 use Rattle.model.specs.declared.Question.{Question}
 use Rattle.model.specs.declared.Question.the-variants.{Survive, Both, High, Low}
 use Rattle.model.specs.Scale.{S}
-use Rattle.model.specs.Sums.{total, count}
+use Rattle.model.specs.Sums.{total}
 use Rattle.model.specs.Levels.{largest-level}
 use Rattle.model.specs.MonthRule.{Row, Month, Rule, month, exact-month, kept, claimed-row, month-back, values, all-placed, any-level, rule-of, last-of}
 use Rattle.model.specs.Bounds.{live-months, month-gap}
-use Rattle.model.proofs.SumLaws.{pow-two-more, positive-none, positive-more}
+use Rattle.model.proofs.SumLaws.{pow-two-more, count-append, positive-none, positive-more}
 use Rattle.model.proofs.LevelLaws.{level-start, level-next, level-from, reachable}
 use Rattle.model.proofs.Quotients.{Direction}
 use Rattle.model.proofs.Month.{MonthFits, claim-sum-times, month-encloses, month-le, month-fits, month-gap-live, month-gap-idle}
@@ -225,10 +225,8 @@ unfolding live-months
 live-months-idle Ps = positive-none Ps
 
 pub live-months-append : (Ps Qs : List ℕ) → live-months (Ps ++ Qs) ≡ live-months Ps + live-months Qs
-unfolding live-months count
-live-months-append [] Qs = sym (zero-add (live-months Qs))
-live-months-append (zero ∷ Ps) Qs = rw (live-months-idle (Ps ++ Qs), live-months-idle Ps) (live-months-append Ps Qs)
-live-months-append (suc P ∷ Ps) Qs = rw (live-months-live P (Ps ++ Qs), live-months-live P Ps) (omega (arith, live-months-append Ps Qs))
+unfolding live-months
+live-months-append Ps Qs = count-append _ Ps Qs
 
 -- The two bounds are apart by at most the gap of their last rows and the allowance of the months with a chance above 0.
 pub values-gap :

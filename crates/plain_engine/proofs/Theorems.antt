@@ -1,12 +1,12 @@
 -- Laws of the call: what is known where it is not refused, and that it answers what the main engine answers.
-use Prim.Native.Nat.{ℕ, zero, suc, _+_, _-_, _≤_}
-use mathlib.Core.Path.{_≡_, refl, sym, _∙_, ap}
-use mathlib.Core.Bool.{Bool, true, false, not, _||_}
+use Prim.Native.Nat.{ℕ, _+_, _-_, _≤_}
+use mathlib.Core.Path.{_≡_, sym, _∙_, ap}
+use mathlib.Core.Bool.{true, false, _||_}
 use mathlib.Core.List.{List}
 use native.Mathlib.Omega.{arith}
 use lib.Dec.{ltb}
 use lib.ListN.{take, drop, length-take}
-use borrow.Author.Tests.{ltb-false, eqb-true, ne-eqb}
+use borrow.Author.Tests.{not-false, ltb-false, eqb-true, ne-eqb}
 use Rattle.model.specs.declared.Head.{Head}
 use Rattle.model.specs.declared.Ask.{Ask}
 use Rattle.model.specs.declared.Question.{Question}
@@ -21,7 +21,7 @@ use Rattle.model.proofs.Theorems.{severity-fits, chances-fit, enclosure}
 use Rattle.questions.proofs.RefusalLaws.{asked-inside, not-refused}
 use Rattle.engine.specs.declared.Answer.{Answer}
 use Rattle.engine.specs.Answers.{refused, bounds-answer, answer}
-use Rattle.engine.proofs.AnswerLaws.{severity-lent}
+use Rattle.engine.proofs.AnswerLaws.{number-is, bounds-are, answer-worked, severity-lent}
 use Rattle.plain_engine.specs.Steps.{Terms}
 use Rattle.plain_engine.specs.Answers.{too-large, plain-refusal, plain-answer}
 
@@ -34,10 +34,6 @@ pub small-refused :
     (a : Ask) (row : List ℕ) → too-large (a .head) ≡ false → first (asked-checks (a .head) row (10, outside (a .question))) ≡ plain-refusal a row
 unfolding plain-refusal
 small-refused a row e = rw e
-
-negated : (b : Bool) → not b ≡ false → b ≡ true
-negated true e = refl
-negated false e = sym e
 
 -- what is known of an ask that is not refused
 pub record Taken (a : Ask) (row : List ℕ) : Type 0 where
@@ -59,7 +55,7 @@ taken a row e =
       inside = parts .1;
       months-few = ltb-false _ _ (low .0);
       opening-low = ltb-false _ _ (low .1);
-      earns = eqb-true _ _ (negated _ (small .1));
+      earns = eqb-true _ _ (not-false _ (small .1));
     }
 
 -- the bounds of a plan with an income of 1 are the values at its opening
@@ -99,15 +95,6 @@ pub bound-lent :
 unfolding plan-of
 bound-lent round a row t r e = (rw (severity-lent (a .head) row) at e) ∙ bound-is round (a .head) row (t .earns) (a .question)
 
-number-is : (n low high : ℕ) → bounds-answer n low high .refusal ≡ n
-unfolding bounds-answer refused
-number-is zero low high = refl
-number-is (suc n) low high = rw (ne-eqb (suc n) 0 (λ z. omega (arith, z)))
-
-bounds-are : (n low high : ℕ) → n ≡ 0 → (bounds-answer n low high .lower ≡ low) × (bounds-answer n low high .upper ≡ high)
-unfolding bounds-answer
-bounds-are n low high z = rw z (refl, refl)
-
 -- What the clauses of the call say besides its equation.
 pub clauses :
     (a : Ask) (row : List ℕ) (r : Answer) → r ≡ plain-answer a row →
@@ -122,7 +109,7 @@ clauses a row r e = (e, (λ z room enough. e ∙ same-answer a row room (none z)
 
     encloses : plain-refusal a row ≡ 0 → EnclosesQuestion (plan-of (a .head) row) (a .question) (r .lower) (r .upper)
     encloses z =
-        let both = bounds-are (plain-refusal a row) (lower (plan-of (a .head) row) (a .question)) (upper (plan-of (a .head) row) (a .question)) z in
+        let both = bounds-are (plain-refusal a row) (lower (plan-of (a .head) row) (a .question)) (upper (plan-of (a .head) row) (a .question)) (number-is (plain-refusal a row) _ _ ∙ z) in
         rw (ap (λ (x : Answer). x .lower) e ∙ both .0, ap (λ (x : Answer). x .upper) e ∙ both .1)
         (enclosure (a .head) row (taken a row z .accepted) (a .question))
 
@@ -134,5 +121,5 @@ refused-is a row n e ne = rw (← e, ne-eqb n 0 ne)
 pub answered-is :
     (a : Ask) (row : List ℕ) (low high : ℕ) → plain-refusal a row ≡ 0 → low ≡ lower (plan-of (a .head) row) (a .question) → high ≡ upper (plan-of (a .head) row) (a .question) →
     _≡_ {A = Answer} (record { refusal = 0; lower = low; upper = high }) (plain-answer a row)
-unfolding plain-answer bounds-answer
-answered-is a row low high none el eh = rw (none, el, eh)
+unfolding plain-answer
+answered-is a row low high none el eh = rw none (answer-worked low high _ _ el eh)

@@ -19,6 +19,8 @@ use Rattle.model.specs.Scale.{S}
 use Rattle.model.specs.Sums.{total, count}
 use Rattle.model.specs.Plan.{nth}
 use Rattle.model.specs.MonthRule.{rule-of, last-of, claims-of, opening-allowed, ruin-weight, month}
+use Rattle.model.proofs.SumLaws.{count-append}
+use Rattle.model.proofs.Month.{nth-le-total}
 use Rattle.model.proofs.Values.{kept-fits, values-fit, last-fits}
 use Rattle.model.proofs.FirstRuin.{ruin-weight-fits}
 use Rattle.text.specs.Text.{ascii, last-digit, digits, decimal, spaced, joined, entry, line}
@@ -29,14 +31,6 @@ use Rattle.tree_text.specs.Tree.{small-plan, node-if, node-after, level-
 use Rattle.tree_text.specs.Rooms.{level-lines, month-lines, tree-line-room, text-room, lines-in}
 use Rattle.tree_text.specs.Terms.{SmallTerms}
 use Rattle.tree_values.specs.Lines.{node-value, left-text, place-text, value-text, claimed-text, claim-text, claim-each, claim-texts, branch-texts, node-text}
-
--- a weight is no more than all together
-nth-le : (F : List ℕ) (x : ℕ) → nth F x ≤ total F
-unfolding nth total
-nth-le F zero = zero-le
-nth-le [] (suc i) = zero-le
-nth-le (f ∷ F) (suc zero) = omega arith
-nth-le (f ∷ F) (suc (suc i)) = omega (arith, nth-le F (suc i))
 
 -- the lines of one level more
 lines-more : (n k : ℕ) → level-lines (suc n) * k ≡ level-lines n * k + (n + 4) * k
@@ -231,7 +225,7 @@ module _ {μ : List ℕ → ℕ} {b small large between : ℕ} (c : Costs μ b s
   -- the nodes at a level, and those of a month
   module _ {q : Question} {u : ℕ} {Ps F : List ℕ} {tail t : ℕ} (h : SmallTerms q u Ps F tail t) where
     each-weight : (x : ℕ) → nth F x ≤ S
-    each-weight x = omega (arith, nth-le F x, h .weights-fit)
+    each-weight x = omega (arith, nth-le-total F x, h .weights-fit)
 
     level-cost : (s : ℕ) → s ≤ u + t → μ (level-text q (small-plan u Ps F tail) t s) ≤ (s + 4) * ((t + 1) * b)
     unfolding node-if
@@ -296,9 +290,8 @@ month-room {t = t} h =
 
 -- the lines of a text, each of which ends with a newline; a number has none
 pub lines-append : (t u : List ℕ) → lines-in (t ++ u) ≡ lines-in t + lines-in u
-unfolding lines-in count
-lines-append [] u = omega arith
-lines-append (x ∷ t) u = omega (arith, lines-append t u)
+unfolding lines-in
+lines-append t u = count-append _ t u
 
 one-line : (small : Bool) (tens : List ℕ) → lines-in tens ≡ 0 → lines-in (cond small [] tens) ≡ 0
 unfolding lines-in count
