@@ -4,7 +4,7 @@
 //! plan bytes on standard input, the bounds of survival at each opening from 0 to the plan's on standard output. With the argument `moves`: the
 //! bytes of two plans that differ only in their chances, one after the other, on standard input, how far each line of their reports moves on
 //! standard output. With the argument `tree` and a question (`survive` or nothing, or `both`, `high` or `low` and its number): bytes of a small plan
-//! on standard input, its tree on standard output.
+//! on standard input, its tree on standard output. With the argument `mix`: mix bytes on standard input, the report of the mix on standard output.
 //!
 //!   rustc -O docs/src/baseline.rs -o OUT
 //!
@@ -511,24 +511,39 @@ fn put(text: &mut String, word: &str, number: Option<usize>, [lower, upper]: [im
     }
 }
 
-fn report(plan: &Plan) -> String {
+/// The most that a question of a report needs.
+fn largest_workspace(plan: &Plan) -> Vec<u32> {
+    vec![0; 2 * plan.levels() * (CLAIMS + 1)]
+}
+
+fn put_head(text: &mut String, plan: &Plan) {
     let (n, u, m, c) = (plan.chances.len(), plan.opening, plan.weights.len(), plan.income);
-    let mut workspace = vec![0; 2 * plan.levels() * (CLAIMS + 1)];
-    let mut text = format!("months {n} opening {u} sizes {m} income {c}\n");
+    writeln!(text, "months {n} opening {u} sizes {m} income {c}").unwrap();
+}
+
+/// The lines of both, high and low, whose bounds `bounds_of` gives.
+fn put_questions(text: &mut String, plan: &Plan, mut bounds_of: impl FnMut(Question) -> [u32; 2]) {
+    let n = plan.chances.len();
+    for k in 0..=n.min(CLAIMS) {
+        put(text, "both", Some(k), bounds_of(Question::Both(k)));
+    }
+    for level in 1..=plan.top(n) {
+        put(text, "high", Some(level), bounds_of(Question::High(level)));
+    }
+    for level in 1..=plan.opening + plan.income {
+        put(text, "low", Some(level), bounds_of(Question::Low(level)));
+    }
+}
+
+fn report(plan: &Plan) -> String {
+    let (n, mut workspace, mut text) = (plan.chances.len(), largest_workspace(plan), String::new());
+    put_head(&mut text, plan);
     put(&mut text, "survive", None, bounds(plan, Question::Survive, &mut workspace));
     let counts = ROUNDINGS.map(|add| count_row(plan, add));
     for k in 0..=n {
         put(&mut text, "claims", Some(k), [counts[0][k], counts[1][k]]);
     }
-    for k in 0..=n.min(CLAIMS) {
-        put(&mut text, "both", Some(k), bounds(plan, Question::Both(k), &mut workspace));
-    }
-    for level in 1..=plan.top(n) {
-        put(&mut text, "high", Some(level), bounds(plan, Question::High(level), &mut workspace));
-    }
-    for level in 1..=u + c {
-        put(&mut text, "low", Some(level), bounds(plan, Question::Low(level), &mut workspace));
-    }
+    put_questions(&mut text, plan, |question| bounds(plan, question, &mut workspace));
     let mut totals = [0, 0];
     for t in 1..=n {
         let pair = failure_bounds(plan, t, &mut workspace);
@@ -573,6 +588,74 @@ fn moves_text(bytes: &[u8]) -> String {
     moves(&one, &other)
 }
 
+// ---- Mixes
+
+const PLANS: usize = 8;
+const WEIGHT_BYTES: usize = 4;
+
+struct Mix {
+    weights: Vec<u64>,
+    plans: Vec<Plan>,
+}
+
+/// How many of these bytes are the next plan's: as many as its head asks, or all that are left.
+fn next_plan(bytes: &[u8]) -> usize {
+    if 8 * bytes.len() < HEAD_BITS.iter().sum() {
+        return bytes.len();
+    }
+    let mut bits = Bits { bytes, at: 0 };
+    let [n, _, m, _] = HEAD_BITS.map(|width| bits.take(width) as usize);
+    plan_bytes(n, m).min(bytes.len())
+}
+
+/// But for their chances. The weights tell over, which is what they leave of S.
+fn alike(one: &Plan, other: &Plan) -> bool {
+    let heads = [one, other].map(|plan| (plan.chances.len(), plan.opening, plan.income));
+    heads[0] == heads[1] && one.weights == other.weights
+}
+
+/// The mix, or the number that turns the bytes away.
+fn read_mix(bytes: &[u8]) -> Result<Mix, u32> {
+    let (&count, bytes) = bytes.split_first().ok_or(1u32)?;
+    let count = usize::from(count);
+    if count == 0 || count > PLANS {
+        return Err(18);
+    }
+    let (weights, mut rest) = bytes.split_at_checked(WEIGHT_BYTES * count).ok_or(1u32)?;
+    let mut bits = Bits { bytes: weights, at: 0 };
+    let weights: Vec<u64> = (0..count).map(|_| bits.take(8 * WEIGHT_BYTES)).collect();
+    let mut plans = Vec::new();
+    for later in (0..count).rev() {
+        let taken = if later > 0 { next_plan(rest) } else { rest.len() };
+        plans.push(read(&rest[..taken])?);
+        rest = &rest[taken..];
+    }
+    if !plans.iter().all(|plan| alike(plan, &plans[0])) || weights.iter().sum::<u64>() != S {
+        return Err(18);
+    }
+    Ok(Mix { weights, plans })
+}
+
+/// The weighted sums of the plans' bounds, divided by S, the lower one rounded down and the upper one up.
+fn mix_bounds(mix: &Mix, question: Question, workspace: &mut [u32]) -> [u32; 2] {
+    let mut totals = ROUNDINGS;
+    for (weight, plan) in mix.weights.iter().zip(&mix.plans) {
+        for (total, bound) in totals.iter_mut().zip(bounds(plan, question, workspace)) {
+            *total += weight * u64::from(bound);
+        }
+    }
+    totals.map(|total| (total / S) as u32)
+}
+
+fn mix_report(mix: &Mix) -> String {
+    let (first, mut text) = (&mix.plans[0], String::new());
+    let mut workspace = largest_workspace(first);
+    put_head(&mut text, first);
+    put(&mut text, "survive", None, mix_bounds(mix, Question::Survive, &mut workspace));
+    put_questions(&mut text, first, |question| mix_bounds(mix, question, &mut workspace));
+    text
+}
+
 /// A refused plan is an answer, too.
 fn print(text: Result<String, u32>) -> io::Result<()> {
     let text = text.unwrap_or_else(|number| format!("refused {number}\n"));
@@ -598,6 +681,7 @@ fn main() -> io::Result<()> {
             Some(question) => print(read(&bytes).and_then(|plan| tree_text(plan, question))),
             None => writeln!(io::stderr(), "a question is survive, both, high or low, the last three with a whole number"),
         },
+        Some("mix") => print(read_mix(&bytes).map(|mix| mix_report(&mix))),
         _ => print(read(&bytes).map(|plan| report(&plan))),
     }
 }

@@ -1,16 +1,17 @@
 #!/usr/bin/env python3
 """Holds two programs for the reserve report against each other, or two that turn rule sheets into plan bytes, or two that find the least opening, or
-two that print the bounds of all openings, or two that print the tree of a small plan, or how far the lines of one's reports move between two plans
-against another program and the sum that bounds them.
+two that print the bounds of all openings, or two that print the tree of a small plan, or two that print the report of a mix, or how far the lines of
+one's reports move between two plans against another program and the sum that bounds them.
 
   compare.py PROGRAM REFERENCE [COUNT]
   compare.py --sheets PROGRAM REFERENCE [COUNT]
   compare.py --least PROGRAM REFERENCE [COUNT]
   compare.py --openings PROGRAM REFERENCE [COUNT]
   compare.py --trees PROGRAM REFERENCE [COUNT]
+  compare.py --mixes PROGRAM REFERENCE [COUNT]
   compare.py --moves PROGRAM REFERENCE [COUNT]
 
-Makes COUNT (100) random accepted plans of all sizes and incomes, or sheets, and as many damaged ones, always the same, hands each to both
+Makes COUNT (100) random accepted plans of all sizes and incomes, or sheets or mixes, and as many damaged ones, always the same, hands each to both
 programs on standard input, and compares what they write on standard output and standard error, byte for byte. For the least opening it does so
 with several targets, each a program's last argument; for trees with several questions, the last arguments, on plans of which most are small, some
 just too large and some of any size. For moves it makes pairs of accepted plans alike but for their chances: PROGRAM prints the report of each, and
@@ -24,6 +25,7 @@ import sys
 import time
 from collections import Counter, namedtuple
 
+from mixes import PLANS, WEIGHT_BYTES, mix_bytes, write_mix
 from moves import moves_text, too_far
 from plans import changed, flipped, gapped, geometric, some_chance, split
 from rules import CLAIMS, HEAD_BITS, HEAD_BYTES, INCOME, LARGEST, LEVEL, MONTHS, OPENING, SIZES, SMALL_INCOME, SMALL_MONTHS, SMALL_OPENING, SPAN
@@ -221,6 +223,99 @@ def pair(rng):
     return write_bytes(head, row) + write_bytes(head, other)
 
 
+# ---- Mixes
+
+
+def mix_head(rng):
+    """One in ten of any size; the others of few months, since the report of a mix takes as long as those of its plans."""
+    if rng.randrange(10) == 0:
+        return some_head(rng)
+    return sized_head(rng, some_number(rng, 0, 12, 1), some_number(rng, 0, 20, 1), rng.randint(1, INCOME))
+
+
+def some_mix(rng):
+    """Weights, a head, and rows that differ only in their chances; some do not differ."""
+    head, count = mix_head(rng), rng.randint(1, PLANS)
+    row = some_row(rng, head)
+    chances, table = row[: head.months], row[head.months :]
+    return some_weights(rng, count), head, [some_moves(rng, chances) + table for _ in range(count)]
+
+
+def whole_mix(weights, head, rows):
+    return write_mix(weights, [(head, row) for row in rows])
+
+
+def accepted_mix(rng):
+    return whole_mix(*some_mix(rng))
+
+
+def wrong_plan(rng, weights, head, rows):
+    """One plan's bytes are damaged as those of a plan by itself."""
+    plans, at = [write_bytes(head, row) for row in rows], rng.randrange(len(rows))
+    return mix_bytes(weights, changed(plans, at, rng.choice(DAMAGES)(rng, head, rows[at])))
+
+
+def past_limit(rng, weights, head, rows):
+    """One plan's head is past the limit of one of its fields, or has no size or no income; its row is as it was."""
+    past = {"months": MONTHS + 1, "opening": OPENING + 1, "sizes": SIZES + 1, "income": INCOME + 1}
+    field = rng.choice(Head._fields)
+    wrong = rng.randint(past[field], 2 ** getattr(WIDTHS, field) - 1)
+    if field in ("sizes", "income") and rng.randrange(2):
+        wrong = 0
+    plans, at = [(head, row) for row in rows], rng.randrange(len(rows))
+    return write_mix(weights, changed(plans, at, (head._replace(**{field: wrong}), rows[at])))
+
+
+def unlike_plan(rng, weights, head, rows):
+    """One plan has another table, or one part of it elsewhere, or is another in a field of its head."""
+    field = rng.choice(Head._fields)
+    before = getattr(head, field)
+    other = head._replace(**{field: before + 1 if before < 2 or rng.randrange(2) else before - 1})
+    plans, at, row = [(head, row) for row in rows], rng.randrange(len(rows)), rows[0]
+    one, another = rng.choices(range(head.months, len(row)), k=2)
+    moved = changed(row, one, row[one] - 1) if row[one] > 0 else row
+    another_plan = [(head, some_row(rng, head)), (head, changed(moved, another, moved[another] + 1)), (other, some_row(rng, other))]
+    return write_mix(weights, changed(plans, at, rng.choice(another_plan)))
+
+
+def wrong_weights(rng, weights, head, rows):
+    """One part more or less; any; or S only in the last 32 bits of the sum."""
+    at, other = rng.randrange(len(rows)), rng.randrange(len(rows))
+    moved = changed(weights, at, min(weights[at] + 2**31, 2**32 - 1))
+    wrong = rng.choice([
+        changed(weights, at, weights[at] + 1 if weights[at] == 0 or rng.randrange(2) else weights[at] - 1),
+        changed(weights, at, rng.getrandbits(8 * WEIGHT_BYTES)),
+        changed(moved, other, min(moved[other] + 2**31, 2**32 - 1)),
+    ])
+    return whole_mix(wrong, head, rows)
+
+
+def wrong_count(rng, weights, head, rows):
+    return bytes([rng.choice([0, rng.randint(1, PLANS), PLANS + 1, rng.randrange(256)])]) + whole_mix(weights, head, rows)[1:]
+
+
+def bit_of_mix(rng, weights, head, rows):
+    data = whole_mix(weights, head, rows)
+    before_plans = 1 + WEIGHT_BYTES * len(rows)
+    return flipped(data, rng.randrange(8 * rng.choice([before_plans, before_plans + HEAD_BYTES, len(data)])))
+
+
+def shortened_mix(rng, weights, head, rows):
+    data = whole_mix(weights, head, rows)
+    return data[: rng.choice([rng.randrange(len(data)), rng.randrange(1 + WEIGHT_BYTES * len(rows) + HEAD_BYTES), len(data) - 1])]
+
+
+def lengthened_mix(rng, weights, head, rows):
+    return whole_mix(weights, head, rows) + rng.choice([bytes, rng.randbytes])(rng.choice([1, byte_length(head), rng.randrange(1, 20000)]))
+
+
+MIX_DAMAGES = [wrong_plan, wrong_plan, past_limit, unlike_plan, wrong_weights, wrong_count, bit_of_mix, shortened_mix, lengthened_mix]
+
+
+def damaged_mix(rng):
+    return rng.choice(MIX_DAMAGES)(rng, *some_mix(rng))
+
+
 # ---- Arguments: none, a target for the least opening, or a question for a tree
 
 TARGETS = 0, 1, S, S + 1, 2**32, 2**32 + 1, 2**64 + 1, 10**40  # the last ones are past S, whatever their last bits are
@@ -272,6 +367,7 @@ OPTIONS = {
     "--least": Matter("plans", "openings", {"accepted": accepted, "damaged": damaged}, some_targets),
     "--openings": Matter("plans", "lists of openings", {"accepted": accepted, "damaged": damaged}, no_arguments),
     "--trees": Matter("plans", "trees", {"accepted": accepted_small, "damaged": damaged_small}, some_questions),
+    "--mixes": Matter("mixes", "reports", {"accepted": accepted_mix, "damaged": damaged_mix}, no_arguments),
     "--moves": Matter("pairs of plans", "within the sum", {"accepted": pair}, no_arguments),
 }
 

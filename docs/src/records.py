@@ -21,11 +21,20 @@ significant first) and the plan's bytes. It prints the tree of each.
 `read` reads the sheet into a row of `room` numbers that each hold FULL_NUMBER; its line has the refusal's number, the head, as above, and the whole
 row after the call. `write` turns the sheet into plan bytes, in `room` bytes that each hold FULL_BYTE; its line has the refusal's number, the length
 and all lent bytes. `report` prints the reserve report of these plan bytes.
+
+`mixtures` reads records that begin with 47 words of 8 bytes, most significant byte first: kind, count, eight heads (months, opening, sizes, income),
+eight weights, question, number, room, fill, length. `call` asks the mix, with the `length` numbers of 4 bytes that follow as the lent row and a
+workspace of `room` numbers that each hold `fill`; its line has the refusal's number, the two bounds and a checksum of the whole workspace after the
+call. `model` asks in the same way, and its line has the two bounds as decimal numbers, rounded to the nearest with 7 places. `report` prints the
+report of the `length` mix bytes that follow; the other words of its record are 0.
 """
 import itertools
 import math
+from fractions import Fraction
 from functools import cache
 
+from exchangeable import decimal, from_edge
+from mixes import PLANS, mix_answer, mix_report
 from rules import HEAD_BYTES, LARGEST, MOST_ASKED, NO_HEAD, NONE, PLACES, S, SURVIVE, ask_checks, bounds, byte_length, claim_sum, count_row, down
 from rules import failure_bounds, failure_checks, least_answer, opening_pairs, openings_answer, places_needed, plain_checks, plan_checks, plan_of
 from rules import read_bytes, read_checks, refusal, report, row_length, up, walked_pairs, workspace_needed, write_bytes, write_checks
@@ -45,6 +54,12 @@ BYTES = 2560
 SHEET_KINDS = ["read", "write", "report"]
 FULL_BYTE = 255
 PLAN_BYTES = 1800  # the most that `sheets` lends; it has ROW numbers as well
+
+MIX_KINDS = ["call", "report", "model"]
+MIX_ROW = PLANS * row_length(LARGEST) + SPARE  # of `mixtures`, which has WORKSPACE numbers as well
+MIX_BYTES = 16384
+MIX_WORDS = 47
+EDGE = Fraction(2, 10**8)  # the least distance of a chance from where its decimal number changes
 
 
 def plan_list(plans):
@@ -216,3 +231,35 @@ class SheetCalls:
     def refused_report(self, data):
         self.record("report", data)
         self.texts.append(f"refused {refusal(sheet_checks(data, byte_length, math.inf))}\n")
+
+
+class MixCalls:
+    """The records of `mixtures` and the text that each has to give."""
+
+    def __init__(self):
+        self.records, self.texts = [], []
+
+    def record(self, kind, words, payload, length):
+        self.records.append(b"".join(word.to_bytes(8, "big") for word in (MIX_KINDS.index(kind), *words, length)) + payload)
+
+    def asked(self, kind, ask, fill):
+        """Eight heads and eight weights, whatever the count is."""
+        heads, weights, question = itertools.chain(*ask.heads), ask.weights, ask.question
+        words = ask.count, *heads, *weights, WORDS.index(question.word), question.number, fitting(ask.room, WORKSPACE), fill
+        self.record(kind, words, b"".join(x.to_bytes(4, "big") for x in ask.row), fitting(len(ask.row), MIX_ROW))
+
+    def call(self, ask, fill=FULL_NUMBER):
+        self.asked("call", ask, fill)
+        number, *pair = mix_answer(ask)
+        after = workspace_after(ask.heads[0], ask.question, number, ask.room, fill)
+        self.texts.append("%d %d %d %d\n" % (number, *pair, checksum(after)))
+
+    def model(self, ask, chance):
+        """The chance is the theorem's; one too near to where its decimal number changes, for bounds around it, is passed over."""
+        if from_edge(chance) >= EDGE:
+            self.asked("model", ask, FULL_NUMBER)
+            self.texts.append(f"{decimal(chance)} {decimal(chance)}\n")
+
+    def report(self, data):
+        self.record("report", [0] * (MIX_WORDS - 2), data, fitting(len(data), MIX_BYTES))
+        self.texts.append(mix_report(data))

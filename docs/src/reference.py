@@ -30,6 +30,14 @@ Written from these documents and their sources alone, not from the engine or its
                                   without a word, of survive
   reference.py trees DIR          DIR/stdin and DIR/stdout of the test program over trees
   reference.py tree-example DIR   DIR/stdin, DIR/args and DIR/stdout of the program that prints a tree: document 01's example
+  reference.py mix W PLAN [W PLAN ..]
+                                  the mix bytes of weights, in parts of S, and files of plan bytes on standard output
+  reference.py mix-report         mix bytes on standard input, the report of the mix on standard output
+  reference.py mixes DIR          DIR/stdin and DIR/stdout of the test program over mixes: takes two minutes
+  reference.py mix-example DIR    DIR/stdin and DIR/stdout of the program that prints the report of a mix: a batch of pumps, good or bad
+  reference.py mix-repeat N [NAME]
+                                  N times survive on a mix of eight of the largest plan, or of another of the plans above, whose chances go round, as
+                                  that test program's input, to time it
 """
 import math
 import struct
@@ -37,6 +45,8 @@ import sys
 from pathlib import Path
 
 from cases import all_calls, repeated_calls, reported_bytes, small_bytes
+from mix_cases import EXAMPLE_MIX, all_mix_calls, repeated_mix
+from mixes import mix_bytes, mix_report, write_mix
 from old_plans import renewed
 from plans import EXAMPLE_BYTES, EXAMPLE_TEXT, timed_plans, timed_small_plan
 from records import plan_list, tree_record
@@ -170,6 +180,29 @@ def print_tree(words, data):
     sys.stdout.write(tree_text(data, question))
 
 
+def write_mixes(folder):
+    calls = all_mix_calls()
+    write_test(folder, b"".join(calls.records), "".join(calls.texts))
+
+
+def write_mix_example(folder):
+    data = write_mix(*EXAMPLE_MIX)
+    write_test(folder, data, mix_report(data))
+
+
+def print_mix(weights, files):
+    """Whatever plans and weights they are: the report says what turns a mix away."""
+    try:
+        data = mix_bytes(map(whole, weights), [Path(file).read_bytes() for file in files])
+    except (ValueError, OverflowError, OSError) as wrong:
+        sys.exit(f"no mix: {wrong}")
+    sys.stdout.buffer.write(data)
+
+
+def print_repeated_mix(times, plan="none-empty"):
+    sys.stdout.buffer.write(b"".join(repeated_mix(whole(times), plans_to_time()[plan]).records))
+
+
 def print_least(word, data):
     target = target_of(word)
     if target is None:
@@ -188,6 +221,8 @@ WRITTEN = {  # the commands that write files into a folder
     "openings-example": write_openings_example,
     "trees": write_trees,
     "tree-example": write_tree_example,
+    "mixes": write_mixes,
+    "mix-example": write_mix_example,
 }
 
 
@@ -215,6 +250,12 @@ def main(words):
             sys.stdout.write(openings_text(sys.stdin.buffer.read()))
         case ["tree", *question]:
             print_tree(question, sys.stdin.buffer.read())
+        case ["mix", *given] if given and len(given) % 2 == 0:
+            print_mix(given[::2], given[1::2])
+        case ["mix-report"]:
+            sys.stdout.write(mix_report(sys.stdin.buffer.read()))
+        case ["mix-repeat", times, *plan] if len(plan) <= 1:
+            print_repeated_mix(times, *plan)
         case [word, folder] if word in WRITTEN:
             WRITTEN[word](folder)
         case _:

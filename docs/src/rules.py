@@ -123,10 +123,14 @@ def plan_checks(head, row):
     yield from row_checks(head, row)
 
 
-def ask_checks(head, row, question, room):
-    yield from plan_checks(head, row)
+def question_checks(head, question, room):
     yield 10, question.number > MOST[question.word]
     yield 11, room < workspace_needed(head, question)
+
+
+def ask_checks(head, row, question, room):
+    yield from plan_checks(head, row)
+    yield from question_checks(head, question, room)
 
 
 def small_checks(head, question):
@@ -401,14 +405,27 @@ def failure_lines(plan):
     yield "fails all %d %d" % totals(pairs)
 
 
+def head_line(head):
+    return "months %d opening %d sizes %d income %d" % head
+
+
+def survive_line(pair):
+    return "survive %d %d" % pair
+
+
+def question_lines(head, bounds_of):
+    """Those of both, high and low; `bounds_of` gives a question's bounds."""
+    for word, numbers in line_numbers(head):
+        for number in numbers:
+            yield "%s %d %d %d" % (word, number, *bounds_of(Question(word, number)))
+
+
 def report_lines(plan):
-    yield "months %d opening %d sizes %d income %d" % plan.head
-    yield "survive %d %d" % bounds(plan, SURVIVE)
+    yield head_line(plan.head)
+    yield survive_line(bounds(plan, SURVIVE))
     for k, pair in zip(range(plan.head.months + 1), zip(count_row(plan, down), count_row(plan, up))):
         yield "claims %d %d %d" % (k, *pair)
-    for word, numbers in line_numbers(plan.head):
-        for number in numbers:
-            yield "%s %d %d %d" % (word, number, *bounds(plan, Question(word, number)))
+    yield from question_lines(plan.head, lambda question: bounds(plan, question))
     yield from failure_lines(plan)
 
 

@@ -9,6 +9,7 @@ from functools import cache
 
 from exact import carried_counts, carried_failures, carried_weight, claim_chance, count_weight, encloses, failure_weight, first_claim_both
 from exact import first_claim_survival, keeps_gap, level_kept, outcomes, question_weight
+from mix_checks import check_mixes
 from moves import chances_apart, difference, more_months
 from old_plans import renewed, write_old
 from plans import EXAMPLE, EXAMPLE_BYTES, EXAMPLE_TEXT, ONE_SIZE, WORKED, changed, flat, gapped, geometric_plan, lasting_plan, questions, some_chance
@@ -746,6 +747,7 @@ def selftest():
     check_openings_numbers(tally)
     check_plain_refusals(tally)
     check_small_numbers(tally)
+    check_mixes(tally, random.Random(57), REFUSED_PLANS)
     check_wide_walks(tally, random.Random(39))
     targets, others = random.Random(21), random.Random(33)
     for head, row in itertools.chain(small_plans(rng), small_income_plans(random.Random(45))):

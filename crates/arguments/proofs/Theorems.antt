@@ -16,7 +16,8 @@ use Rattle.model.specs.Refusal.{outside}
 use Rattle.model.proofs.SumLaws.{none-append, below-or-not}
 use Rattle.text.specs.Text.{ascii, last-digit, digits, decimal}
 use Rattle.arguments.specs.Numbers.{not-digit, is-number, with-digit, spelled, most-number, number-of}
-use Rattle.arguments.specs.Words.{same-word, by-word, question-of}
+use Rattle.numbers.specs.Same.{same}
+use Rattle.arguments.specs.Words.{by-word, question-of}
 use Rattle.arguments.specs.Words.{read-as as asked-as}
 use Rattle.arguments.proofs.Spelling.{read-as, spelled-more}
 
@@ -57,7 +58,7 @@ reads-back n small =
 
 -- A question in the report's words is read as it is: its word, and its number in decimal.
 pub words-read : (n : ℕ) → n ≤ most-number → (question-of 2 (ascii "both") (decimal n) ≡ asked-as (Both n)) × ((question-of 2 (ascii "high") (decimal n) ≡ asked-as (High n)) × (question-of 2 (ascii "low") (decimal n) ≡ asked-as (Low n)))
-unfolding question-of by-word same-word
+unfolding question-of by-word same
 words-read n small = rw (reads-back n small) (refl, (refl, refl))
 
 -- A number that was cut off is outside the limits of a question as the number itself is: it is refused with 10.

@@ -58,7 +58,7 @@ head-first xs ys whole =
       income = number (within-first income-start income-width (bits-of xs) (bits-of ys) (omega (arith, long)) i);
     })
 
-same-head : (bytes : List ℕ) (most : ℕ) → head-bytes ≤ length bytes → head-bytes ≤ most → head-of (take most bytes) ≡ head-of bytes
+pub same-head : (bytes : List ℕ) (most : ℕ) → head-bytes ≤ length bytes → head-bytes ≤ most → head-of (take most bytes) ≡ head-of bytes
 same-head bytes most h m =
     sym (head-first (take most bytes) (drop most bytes) (rw length-take (omega arith))) ∙ ap head-of (take-append-drop most bytes)
 

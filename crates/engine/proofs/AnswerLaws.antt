@@ -1,7 +1,7 @@
 -- Laws of an answer that has two bounds: refused or worked out, the parts as they are lent, the last rows, and the value that they give.
 use mathlib.Core.Path.{_≡_, refl, sym, _∙_, ap}
 use mathlib.Core.Bool.{true, false}
-use mathlib.Core.List.{List, _++_}
+use mathlib.Core.List.{List}
 use Prim.Native.Nat.{ℕ, zero, suc, _+_, _*_, _-_, _≤_, _<_}
 use native.Mathlib.Nat.{le-refl, mul-assoc, mul-comm, one-mul, sub-zero, zero-add, zero-mul}
 use native.Mathlib.Omega.{arith}
@@ -16,7 +16,7 @@ use Rattle.model.specs.declared.Rounding.{Rounding}
 use Rattle.model.specs.Plan.{Plan, nth, plan-of, row-length}
 use Rattle.model.specs.Levels.{largest-level, row-levels}
 use Rattle.model.specs.MonthRule.{month, values, all-placed, last-of, opening-allowed, ruin-row, carried-back}
-use Rattle.model.specs.Bounds.{Encloses, bound, ruin-bound}
+use Rattle.model.specs.Bounds.{bound, ruin-bound}
 use Rattle.model.specs.Refusal.{outside, rows-needed, workspace-needed}
 use Rattle.model.proofs.LevelLaws.{level-later}
 use Rattle.model.proofs.Facts.{Facts, horizon-is}
@@ -35,7 +35,7 @@ use Rattle.ruin_rows.specs.Terms.{RuinTerms}
 use Rattle.questions.specs.Needs.{shape-of}
 use Rattle.engine.specs.LastRows.{last-rows, past-last, LastIn, LastFits, opening-value}
 use Rattle.engine.specs.Answers.{refused, bounds-answer}
-use Rattle.model.specs.Memory.{cleared-after}
+use Rattle.model.specs.Memory.{zero-first, cleared-after}
 use Rattle.questions.proofs.ShapeLaws.{shape-rows, shape-width, last-agree, shape-value}
 
 -- The clauses of a call that answers two bounds: of a refusal, of which nothing else is promised (E) …
@@ -48,17 +48,17 @@ refused-out r n number needed low high ws er e ne = (
   (untouched n number needed ws e ne, λ z. absurd (ne (sym (ap (λ (a : Answer). a .refusal) er) ∙ z))),
 )
 
--- … and of an answer that was not refused: what holds of the definition's bounds holds of its numbers.
+-- … and of an answer that was not refused: what holds of the definition's bounds (E) holds of its numbers.
 pub answered-out :
-    {p : Plan} {gap-months : List ℕ} {W : ℕ} (r : Answer) (number m needed : ℕ) (ws ws′ : List ℕ) {low high low′ high′ : ℕ} → number ≡ 0 →
-    r ≡ bounds-answer 0 low high → low ≡ low′ → high ≡ high′ → ws′ ≡ replicate m 0 ++ drop m ws → m ≡ needed → Encloses p gap-months W low′ high′ →
-    (r ≡ bounds-answer number low′ high′) × ((ws′ ≡ cleared-after number needed ws) × (r .refusal ≡ 0 → Encloses p gap-months W (r .lower) (r .upper)))
+    (E : ℕ → ℕ → Type 0) (r : Answer) (number m needed : ℕ) (ws ws′ : List ℕ) {low high low′ high′ : ℕ} → number ≡ 0 →
+    r ≡ bounds-answer 0 low high → low ≡ low′ → high ≡ high′ → ws′ ≡ zero-first m ws → m ≡ needed → E low′ high′ →
+    (r ≡ bounds-answer number low′ high′) × ((ws′ ≡ cleared-after number needed ws) × (r .refusal ≡ 0 → E (r .lower) (r .upper)))
 unfolding bounds-answer
-answered-out r number m needed ws ws′ e worked el eh cleared em encloses = (
+answered-out E r number m needed ws ws′ e worked el eh cleared em holds = (
   rw (e, ← el, ← eh) worked,
   (
-    cleared ∙ ap (λ (k : ℕ). replicate k 0 ++ drop k ws) em ∙ sym (filled number needed (replicate needed 0) ws e),
-    λ _. rw (ap (λ (a : Answer). a .lower) worked ∙ el, ap (λ (a : Answer). a .upper) worked ∙ eh) encloses,
+    cleared ∙ ap (λ (k : ℕ). zero-first k ws) em ∙ sym (filled number needed (replicate needed 0) ws e),
+    λ _. rw (ap (λ (a : Answer). a .lower) worked ∙ el, ap (λ (a : Answer). a .upper) worked ∙ eh) holds,
   ),
 )
 

@@ -1,14 +1,15 @@
 -- Lent memory after a call that may refuse, where nothing is refused and where something is.
-use Prim.Native.Nat.{ℕ, zero, suc, _≤_}
+use Prim.Native.Nat.{ℕ, zero, suc, _≤_, max}
 use mathlib.Core.Path.{_≡_, _∙_, ap, sym}
 use mathlib.Core.Bool.{cond}
-use mathlib.Core.List.{List, _++_}
+use mathlib.Core.List.{List, [], _∷_, _++_}
+use native.Mathlib.Nat.{max-zero, zero-max, suc-max-suc}
 use native.Mathlib.Omega.{arith}
 use borrow.Author.Tests.{eq-eqb, ne-eqb}
 use lib.Dec.{eqb}
 use lib.ListN.{length, take, drop, replicate}
-use lib.Seq.{length-take-le}
-use Rattle.model.specs.Memory.{filled-after, cleared-after}
+use lib.Seq.{length-take-le, drop-nil}
+use Rattle.model.specs.Memory.{filled-after, zero-first, cleared-after}
 
 -- a choice by a refusal's number
 module _ {A : Type 0} where
@@ -42,3 +43,10 @@ pub cleared-is :
 unfolding filled-after
 cleared-is number m needed ws front none en fits zeros =
     rw (none, ← en) (ap (λ (first : List ℕ). first ++ drop m ws) (zeros ∙ ap (λ (n : ℕ). replicate n 0) (length-take-le m ws fits)))
+
+-- 0 up to two places is 0 up to the larger
+pub zero-more : (m n : ℕ) (ws : List ℕ) → zero-first m (zero-first n ws) ≡ zero-first (max m n) ws
+zero-more zero n ws = rw zero-max
+zero-more (suc m) zero ws = rw max-zero
+zero-more (suc m) (suc n) [] = rw suc-max-suc (ap (λ (l : List ℕ). 0 ∷ l) (simp drop-nil at (zero-more m n [])))
+zero-more (suc m) (suc n) (x ∷ ws) = rw suc-max-suc (ap (λ (l : List ℕ). 0 ∷ l) (zero-more m n ws))

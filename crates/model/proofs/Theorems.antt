@@ -323,7 +323,7 @@ module _ (h : Head) (row : List ℕ) (accepted : Accepted h row) where
   counts-ordered k = ordered (count-enclosure k)
 
   -- every bound is at most S
-  bound-fits : (round : Rounding) (q : Question) → bound round p q ≤ S
+  pub bound-fits : (round : Rounding) (q : Question) → bound round p q ≤ S
   unfolding bound value
   bound-fits round q =
       kept-fits (opening-allowed q) _ (p .opening)

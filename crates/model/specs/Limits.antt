@@ -44,9 +44,17 @@ max-small-opening = 6
 abbrev pub small-income : ℕ
 small-income = 1
 
+-- Document 02: "A mix is 1 to 8 plans"
+abbrev pub max-plans : ℕ
+max-plans = 8
+
 -- room for the longest row of a plan
 abbrev pub row-room : ℕ
 row-room = max-months + max-sizes + 1
+
+-- room for the rows of all plans of a mixture, end to end
+abbrev pub rows-room : ℕ
+rows-room = max-plans * row-room
 
 -- room for the levels of the longest row of values
 abbrev pub level-room : ℕ

@@ -9,6 +9,10 @@ use lib.ListN.{drop, replicate}
 unfoldable pub filled-after : ℕ → ℕ → List ℕ → List ℕ → List ℕ
 filled-after number needed new lent = cond (eqb number 0) (new ++ drop needed lent) lent
 
+-- the first n numbers are 0, and what lies past them is as it was
+abbrev pub zero-first : ℕ → List ℕ → List ℕ
+zero-first n xs = replicate n 0 ++ drop n xs
+
 -- "After an answered question the needed part of the desk is all zero." The workspace is document 01's desk.
 abbrev pub cleared-after : ℕ → ℕ → List ℕ → List ℕ
 cleared-after number needed workspace = filled-after number needed (replicate needed 0) workspace

@@ -25,8 +25,14 @@ pub const SMALL_OPENING: usize = 6;
 
 pub const SMALL_INCOME: usize = 1;
 
+// The most plans of a mixture.
+pub const PLANS: usize = 8;
+
 // Room for the longest row of a plan.
 pub const ROW: usize = MONTHS + SIZES + 1;
+
+// Room for the rows of all plans of a mixture, end to end.
+pub const ROWS: usize = PLANS * ROW;
 
 // Room for the levels of the longest row of values.
 pub const LEVELS: usize = SPAN + 1;

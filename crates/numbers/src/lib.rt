@@ -29,6 +29,13 @@ pub fn index(x: u8) -> usize
     x as usize
 }
 
+// The product of two numbers, in a word that holds it.
+pub fn product(weight: u32, value: u32) -> u64
+    ensures { λ r. ⌜ r ≡ weight * value ⌝ }
+{
+    weight as u64 * value as u64
+}
+
 // The number of `count` bytes from a place on, most significant first.
 pub fn big_endian(bytes: &[u8], at: usize, count: usize) -> usize
     requires { ⌜ (at + count ≤ length (now bytes)) × (count ≤ 8) ⌝ }

@@ -1,6 +1,6 @@
 // What a question says of one step: the levels that it allows, the claims that it still follows, and the last value.
 ghost use mathlib.Core.Path.{_≡_};
-ghost use Prim.Native.Nat.{ℕ, _*_};
+ghost use Prim.Native.Nat.{ℕ};
 ghost use mathlib.Core.Bool.{cond};
 ghost use Rattle.model.specs.MonthRule.{rule-of, last-of};
 ghost use Rattle.plain_engine.specs.Answers.{too-large};
@@ -48,12 +48,6 @@ pub fn level_value(question: Question, level: usize, value: u32) -> u32
     ensures { λ r. ⌜ r ≡ cond (rule-of question .allowed level) value 0 ⌝ }
 {
     taken(level_allowed(question, level), value)
-}
-
-pub fn product(weight: u32, value: u32) -> u64
-    ensures { λ r. ⌜ r ≡ weight * value ⌝ }
-{
-    weight as u64 * value as u64
 }
 
 // The claims left to place after one more; only both counts them.

@@ -7,12 +7,12 @@ use crate::steps::claims_after;
 use crate::steps::followed;
 use crate::steps::last_value;
 use crate::steps::level_value;
-use crate::steps::product;
 use crate::steps::taken;
 use model::Question;
 use model::Rounding;
 use model::WIDE_SCALE;
 use numbers::lesser;
+use numbers::product;
 use questions::needs::opening_allowed;
 use rounding::month_value;
 

@@ -59,8 +59,8 @@ fn some_above(row: &[u32], limit: u32) -> bool
     false
 }
 
-// The sum of a row's numbers, of which there are few enough that it fits.
-fn sum_of(row: &[u32]) -> u64
+// The sum of a row's numbers, or of other numbers that are few enough for it to fit.
+pub fn sum_of(row: &[u32]) -> u64
     requires { ⌜ length (now row) ≤ 2 ^ 32 ⌝ }
     ensures { λ r. ⌜ r ≡ total (now (row .entry)) ⌝ }
 {

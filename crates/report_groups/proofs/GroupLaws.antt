@@ -1,6 +1,6 @@
 -- Laws of the groups of lines: a question has at most so many, and where they end. Assumes nothing.
 use Prim.Native.Nat.{ℕ, _+_, _*_, _^_, _<_, _≤_}
-use mathlib.Core.Path.{_≡_, refl}
+use mathlib.Core.Path.{_≡_, refl, _∙_}
 use mathlib.Core.Bool.{false}
 use mathlib.Core.List.{List, [], _∷_}
 use native.Mathlib.Omega.{arith}
@@ -15,10 +15,11 @@ use Rattle.model.specs.Plan.{Plan}
 use Rattle.model.specs.Refusal.{outside}
 use Rattle.model.proofs.Facts.{HeadFacts}
 use Rattle.text.specs.Text.{ascii, joined, Appended}
-use Rattle.text.proofs.TextLaws.{line-at-most, joined-at-most, joined-same}
-use Rattle.report_groups.specs.Groups.{numbered, question-at, question-lines, LinesFit, line-range, group-lines, most-lines, claims-line, claims-at, claims-line-of, claims-lines}
+use Rattle.text.proofs.TextLaws.{line-at-most, joined-at-most, joined-same, Appending, appending-start, appending-turn, appending-done}
+use Rattle.report_groups.specs.Groups.{numbered, question-at, question-lines, LinesFit, line-range, group-lines, most-lines, lines-need, claims-line, claims-at, claims-line-of, claims-lines}
+use Rattle.report_lines.specs.Asking.{question-needs, Cleared}
 use Rattle.report_lines.specs.Lines.{line-room, CountsOf}
-use Rattle.report_lines.proofs.LineLaws.{question-short}
+use Rattle.report_lines.proofs.AskingLaws.{cleared-none, cleared-turn, cleared-all}
 
 pub claims-short : (k low high : ℕ) → length (claims-line k low high) ≤ line-room
 claims-short k low high = omega (arith, line-at-most (ascii "claims") (k ∷ low ∷ high ∷ []))
@@ -60,19 +61,59 @@ range-fits q h known long room =
     let most = mul-le-mul-right line-room (range-most q h known) in
     record { within = range-within q h known; numbers-fit = omega (arith, range-starts q h); room = omega arith }
 
+-- What putting a question's lines one by one keeps: the first i are appended, and their questions have cleared the workspace.
+pub record Putting
+    (line-of : Question → List ℕ) (h : Head) (q : Question) (first count : ℕ) (text₀ : List ℕ) (at : ℕ) (ws₀ text ws : List ℕ) (end i : ℕ) : Type 0
+  where
+    pub lines : Appending (question-at line-of q first) count text₀ at text end i
+    pub space : Cleared (lines-need h q first i) ws₀ ws
+
+module _ {line-of : Question → List ℕ} {h : Head} {q : Question} {first count : ℕ} {text₀ : List ℕ} {at : ℕ} {ws₀ : List ℕ} where
+  pub putting-none : at ≤ length text₀ → Putting line-of h q first count text₀ at ws₀ text₀ ws₀ at 0
+  putting-none inside = record { lines = appending-start inside; space = cleared-none _ _ }
+
+  module _ {text ws : List ℕ} {end i : ℕ} (p : Putting line-of h q first count text₀ at ws₀ text ws end i) where
+    -- one more, of the question as it was asked
+    pub putting-more :
+        (asked : Question) → asked ≡ numbered q (first + i) → i < count → {text′ ws′ : List ℕ} {end′ : ℕ} → length text′ ≡ length text →
+        Appended text end (line-of asked) text′ end′ → Cleared (question-needs h asked) ws ws′ → Putting line-of h q first count text₀ at ws₀ text′ ws′ end′ (i + 1)
+    putting-more asked e l same written cleared =
+        record {
+          lines = appending-turn (p .lines) l same (rw e at written);
+          space = cleared-turn (λ i. question-needs h (numbered q (first + i))) (p .space) (rw e at cleared);
+        }
+
+    pub putting-done : count ≤ i → Appended text₀ at (question-lines line-of q first count) text end × Cleared (lines-need h q first count) ws₀ ws
+    unfolding question-lines
+    putting-done all =
+        let every : i ≡ count = omega (arith, p .lines .turns) in
+        (appending-done (p .lines) all, cleared-all (λ i. question-needs h (numbered q (first + i))) every (p .space))
+
 -- where the lines of the count row and those of a question end
 pub claims-end : (p : Plan) (n : ℕ) {b b′ : List ℕ} {at end : ℕ} → Appended b at (claims-lines p n) b′ end → end ≤ at + (n + 1) * line-room
 unfolding claims-lines
 claims-end p n e = omega (arith, e .ends, joined-at-most (claims-line-of p) line-room (λ k. claims-short k _ _) (n + 1))
 
 pub group-ends :
-    (p : Plan) (h : Head) (q : Question) {b b′ : List ℕ} {at end : ℕ}
-    → HeadFacts h → Appended b at (group-lines p h q) b′ end → end ≤ at + most-lines q * line-room
+    (line-of : Question → List ℕ) (h : Head) (q : Question) {b b′ : List ℕ} {at end : ℕ}
+    → ((q : Question) → length (line-of q) ≤ line-room) → HeadFacts h → Appended b at (group-lines line-of h q) b′ end → end ≤ at + most-lines q * line-room
 unfolding question-lines
-group-ends p h q known e =
+group-ends line-of h q short known e =
     omega (
       arith,
       e .ends,
-      joined-at-most (question-at p q (line-range q h .first)) line-room (λ i. question-short _ _) (line-range q h .count),
+      joined-at-most (question-at line-of q (line-range q h .first)) line-room (λ i. short _) (line-range q h .count),
       mul-le-mul-right line-room (range-most q h known),
     )
+
+-- a text as long as it was, with room for so many lines after its end, and what a question's lines leave of it
+pub record Leaves (before text : List ℕ) (end lines : ℕ) : Type 0 where
+  pub long : length text ≡ length before
+  pub room : end + lines * line-room ≤ length before
+
+pub group-leaves :
+    (line-of : Question → List ℕ) (h : Head) (q : Question) {before b b′ : List ℕ} {at end lines : ℕ} (rest : ℕ)
+    → ((q : Question) → length (line-of q) ≤ line-room) → HeadFacts h → Leaves before b at lines → most-lines q + rest ≤ lines
+    → length b′ ≡ length b → Appended b at (group-lines line-of h q) b′ end → Leaves before b′ end rest
+group-leaves line-of h q rest short known left enough same e =
+    record { long = same ∙ left .long; room = omega (arith, left .room, enough, group-ends line-of h q short known e) }

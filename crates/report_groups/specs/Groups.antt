@@ -1,5 +1,6 @@
--- The groups of lines of "The reserve report": those of each question and of the count row, and what they need of the workspace.
-use Prim.Native.Nat.{ℕ, _+_, _*_, _^_, _<_, _≤_, min}
+-- The groups of lines of "The reserve report": those of each question and of the count row, and what they need of the workspace. A question's line is
+-- whatever a report says it is, so that the groups are those of a mixture's report too.
+use Prim.Native.Nat.{ℕ, _+_, _*_, _^_, _<_, _≤_, min, max}
 use mathlib.Core.Path.{_≡_}
 use mathlib.Core.Bool.{false}
 use mathlib.Core.List.{List}
@@ -13,7 +14,7 @@ use Rattle.model.specs.Plan.{Plan}
 use Rattle.model.specs.Bounds.{count-lower, count-upper}
 use Rattle.model.specs.Refusal.{outside}
 use Rattle.text.specs.Text.{ascii, joined}
-use Rattle.report_lines.specs.Lines.{question-line, numbered-line, line-room}
+use Rattle.report_lines.specs.Lines.{numbered-line, line-room}
 use Rattle.report_lines.specs.Asking.{question-needs, largest-of}
 use Rattle.report_groups.specs.declared.LineRange.{LineRange}
 
@@ -25,11 +26,11 @@ numbered (High L) x = High x
 numbered (Low L) x = Low x
 
 -- so many lines of a question, its number rising from the first
-abbrev pub question-at : Plan → Question → ℕ → ℕ → List ℕ
-question-at p q first i = question-line p (numbered q (first + i))
+abbrev pub question-at : (Question → List ℕ) → Question → ℕ → ℕ → List ℕ
+question-at line-of q first i = line-of (numbered q (first + i))
 
-unfoldable pub question-lines : Plan → Question → ℕ → ℕ → List ℕ
-question-lines p q first count = joined count (question-at p q first)
+unfoldable pub question-lines : (Question → List ℕ) → Question → ℕ → ℕ → List ℕ
+question-lines line-of q first count = joined count (question-at line-of q first)
 
 -- the line of a place of the count row
 abbrev pub claims-line : ℕ → ℕ → ℕ → List ℕ
@@ -55,8 +56,8 @@ line-range (High L) h = record { first = 1; count = largest-level (h .income) (h
 line-range (Low L) h = record { first = 1; count = h .opening + h .income }
 
 -- all lines of a question
-abbrev pub group-lines : Plan → Head → Question → List ℕ
-group-lines p h q = question-lines p q (line-range q h .first) (line-range q h .count)
+abbrev pub group-lines : (Question → List ℕ) → Head → Question → List ℕ
+group-lines line-of h q = question-lines line-of q (line-range q h .first) (line-range q h .count)
 
 -- What lines of a question need: numbers within the limits that fit 64 bits, and room in the text.
 pub record LinesFit (q : Question) (first count at : ℕ) (text : List ℕ) : Type 0 where
@@ -77,3 +78,7 @@ lines-need h q first count = largest-of count (λ i. question-needs h (numbered 
 
 abbrev pub group-needs : Head → Question → ℕ
 group-needs h q = lines-need h q (line-range q h .first) (line-range q h .count)
+
+-- and the groups of all four questions
+abbrev pub groups-need : Head → ℕ
+groups-need h = max (group-needs h (Low 0)) (max (group-needs h (High 0)) (max (group-needs h (Both 0)) (group-needs h Survive)))

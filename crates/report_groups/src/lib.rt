@@ -7,7 +7,7 @@ ghost use Rattle.model.specs.Refusal.{HeadAccepted, Accepted};
 ghost use Rattle.text.specs.Text.{joined, Appended};
 ghost use Rattle.report_lines.specs.Asking.{Answerable, Cleared};
 ghost use Rattle.report_groups.specs.Groups.{lines-need, group-needs, question-lines, line-range, group-lines, claims-at, claims-lines, LinesFit, most-lines};
-ghost use Rattle.report_lines.specs.Lines.{line-room};
+ghost use Rattle.report_lines.specs.Lines.{question-line, line-room};
 ghost use Rattle.report_groups.specs.Groups.{numbered as Lines·numbered};
 use model::Head;
 use model::Question;
@@ -25,7 +25,7 @@ pub struct LineRange {
     pub count: usize,
 }
 
-fn line_range(question: Question, head: Head) -> LineRange
+pub fn line_range(question: Question, head: Head) -> LineRange
     requires { ⌜ HeadAccepted head ⌝ }
     ensures { λ r. ⌜ r ≡ line-range question head ⌝ }
 {
@@ -57,7 +57,7 @@ pub fn put_group(
 ) -> usize
     requires { ⌜ Answerable head (now row) (now workspace) ⌝ }
     requires { ⌜ at + most-lines question * line-room ≤ length (now text) ⌝ }
-    ensures written { λ r. ⌜ Appended (now (text .entry)) at (group-lines (plan-of head (now (row .entry))) head question) (now (text .exit)) r ⌝ }
+    ensures written { λ r. ⌜ Appended (now (text .entry)) at (group-lines (question-line (plan-of head (now (row .entry)))) head question) (now (text .exit)) r ⌝ }
     ensures cleared { λ _. ⌜ Cleared (group-needs head question) (now (workspace .entry)) (now (workspace .exit)) ⌝ }
 {
     let range = line_range(question, head);
@@ -86,7 +86,7 @@ fn put_range(
 ) -> usize
     requires { ⌜ Answerable head (now row) (now workspace) ⌝ }
     requires { ⌜ LinesFit question first count at (now text) ⌝ }
-    ensures written { λ r. ⌜ Appended (now (text .entry)) at (question-lines (plan-of head (now (row .entry))) question first count) (now (text .exit)) r ⌝ }
+    ensures written { λ r. ⌜ Appended (now (text .entry)) at (question-lines (question-line (plan-of head (now (row .entry)))) question first count) (now (text .exit)) r ⌝ }
     ensures cleared { λ _. ⌜ Cleared (lines-need head question first count) (now (workspace .entry)) (now (workspace .exit)) ⌝ }
 {
     let mut end = at;
@@ -106,7 +106,7 @@ fn put_range(
 }
 
 // The same question with another number.
-fn numbered(question: Question, x: usize) -> Question
+pub fn numbered(question: Question, x: usize) -> Question
     ensures { λ r. ⌜ r ≡ Lines·numbered question x ⌝ }
 {
     match question {

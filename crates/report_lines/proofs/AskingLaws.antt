@@ -1,13 +1,12 @@
 -- Laws of asking on an accepted plan: what the engine answers, and what any number of questions leave of the workspace. Assumes nothing.
-use Prim.Native.Nat.{ℕ, zero, suc, _+_, max, _≤_}
+use Prim.Native.Nat.{ℕ, _+_, max, _≤_}
 use mathlib.Core.Path.{_≡_, refl, ap, _∙_}
 use mathlib.Core.Bool.{Bool, false}
-use mathlib.Core.List.{List, [], _∷_}
+use mathlib.Core.List.{List}
 use native.Mathlib.Numerals.{add-one}
 use native.Mathlib.Omega.{arith}
-use native.Mathlib.Nat.{max-le, max-zero, zero-max, suc-max-suc}
+use native.Mathlib.Nat.{max-le}
 use lib.ListN.{length, length-append, length-replicate, length-drop}
-use lib.Seq.{drop-nil}
 use Rattle.model.specs.declared.Head.{Head}
 use Rattle.model.specs.declared.Ask.{Ask}
 use Rattle.model.specs.declared.Question.{Question}
@@ -18,11 +17,11 @@ use Rattle.model.specs.Bounds.{lower, upper, ruin-lower, ruin-upper}
 use Rattle.model.specs.Refusal.{outside, month-outside, workspace-needed, survival-workspace, bounds-refusal}
 use Rattle.model.proofs.Facts.{accepted-head}
 use Rattle.model.proofs.Rooms.{workspace-fits}
-use Rattle.model.proofs.MemoryLaws.{filled}
+use Rattle.model.proofs.MemoryLaws.{filled, zero-more}
 use Rattle.engine.specs.Answers.{bounds-answer, answer, workspace-after, ruin-answer, ruin-workspace-after}
-use Rattle.model.specs.Memory.{cleared-after}
+use Rattle.model.specs.Memory.{zero-first, cleared-after}
 use Rattle.questions.proofs.RefusalLaws.{not-refused}
-use Rattle.report_lines.specs.Asking.{Answerable, zero-first, question-needs, workspace-left, largest-of, Cleared}
+use Rattle.report_lines.specs.Asking.{Answerable, question-needs, workspace-left, largest-of, Cleared}
 
 -- no question asked
 pub nothing-cleared : (ws : List ℕ) → Cleared 0 ws ws
@@ -31,13 +30,6 @@ nothing-cleared ws = record { inside = omega arith; is = refl }
 pub cleared-none : (f : ℕ → ℕ) (ws : List ℕ) → Cleared (largest-of 0 f) ws ws
 unfolding largest-of
 cleared-none f ws = nothing-cleared ws
-
--- 0 up to two places is 0 up to the larger
-zero-more : (m n : ℕ) (ws : List ℕ) → zero-first m (zero-first n ws) ≡ zero-first (max m n) ws
-zero-more zero n ws = rw zero-max
-zero-more (suc m) zero ws = rw max-zero
-zero-more (suc m) (suc n) [] = rw suc-max-suc (ap (λ (l : List ℕ). 0 ∷ l) (simp drop-nil at (zero-more m n [])))
-zero-more (suc m) (suc n) (x ∷ ws) = rw suc-max-suc (ap (λ (l : List ℕ). 0 ∷ l) (zero-more m n ws))
 
 -- some questions after others, and one more of those that are asked one by one
 pub cleared-more : {m n : ℕ} {b₀ b₁ b₂ : List ℕ} → Cleared m b₀ b₁ → Cleared n b₁ b₂ → Cleared (max n m) b₀ b₂

@@ -15,7 +15,7 @@ use Rattle.text.specs.Text.{ascii, Appended}
 use Rattle.text.proofs.TextLaws.{entry-at-most, line-at-most}
 use Rattle.report_lines.specs.Lines.{head-line, head-room, word-of, bounds-line, question-line, line-room, CountsOf}
 
-bounds-short : (q : Question) (low high : ℕ) → length (bounds-line q low high) ≤ line-room
+pub bounds-short : (q : Question) (low high : ℕ) → length (bounds-line q low high) ≤ line-room
 bounds-short Survive low high = omega (arith, line-at-most (word-of Survive) (low ∷ high ∷ []))
 bounds-short (Both k) low high = omega (arith, line-at-most (word-of (Both k)) (k ∷ low ∷ high ∷ []))
 bounds-short (High L) low high = omega (arith, line-at-most (word-of (High L)) (L ∷ low ∷ high ∷ []))

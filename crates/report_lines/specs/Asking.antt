@@ -1,21 +1,18 @@
 -- What asking the engine needs of a plan and a workspace, and what it leaves of the workspace.
 use Prim.Native.Nat.{ℕ, zero, suc, _+_, _≤_, max}
 use mathlib.Core.Path.{_≡_}
-use mathlib.Core.List.{List, _++_}
-use lib.ListN.{length, drop, replicate}
+use mathlib.Core.List.{List}
+use lib.ListN.{length}
 use Rattle.model.specs.declared.Head.{Head}
 use Rattle.model.specs.declared.Question.{Question}
 use Rattle.model.specs.Limits.{workspace-room}
+use Rattle.model.specs.Memory.{zero-first}
 use Rattle.model.specs.Refusal.{Accepted, workspace-needed}
 
 -- What the engine needs to answer every question of a plan: the plan is accepted, and there is workspace for any question.
 pub record Answerable (h : Head) (row workspace : List ℕ) : Type 0 where
   pub accepted : Accepted h row
   pub room : workspace-room ≤ length workspace
-
--- the first n numbers are 0, and what lies past them is as it was
-abbrev pub zero-first : ℕ → List ℕ → List ℕ
-zero-first n xs = replicate n 0 ++ drop n xs
 
 -- what one question needs of the workspace
 abbrev pub question-needs : Head → Question → ℕ

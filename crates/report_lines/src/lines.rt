@@ -29,7 +29,7 @@ pub fn put_head(text: &mut [u8], at: usize, head: Head) -> usize
 }
 
 // A question's line, from its bounds.
-fn put_bounds(text: &mut [u8], at: usize, question: Question, lower: u64, upper: u64) -> usize
+pub fn put_bounds(text: &mut [u8], at: usize, question: Question, lower: u64, upper: u64) -> usize
     requires { ⌜ at + line-room ≤ length (now text) ⌝ }
     ensures { λ r. ⌜ Appended (now (text .entry)) at (bounds-line question lower upper) (now (text .exit)) r ⌝ }
 {

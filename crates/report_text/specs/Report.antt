@@ -9,19 +9,19 @@ use Rattle.model.specs.Limits.{max-months, row-room}
 use Rattle.model.specs.Plan.{Plan, plan-of}
 use Rattle.model.specs.Format.{head-of, row-of}
 use Rattle.model.specs.Refusal.{read-refusal}
-use Rattle.report_groups.specs.Groups.{group-needs, claims-lines, group-lines, most-lines}
+use Rattle.report_groups.specs.Groups.{groups-need, claims-lines, group-lines, most-lines}
 use Rattle.ruin_lines.specs.Lines.{ruins-need, ruin-lines}
-use Rattle.report_lines.specs.Lines.{head-line, refused-line, head-room, line-room}
+use Rattle.report_lines.specs.Lines.{head-line, question-line, refused-line, head-room, line-room}
 
 -- the report of an accepted plan
 unfoldable pub plan-report : Head → List ℕ → List ℕ
 plan-report h row =
     head-line h
-    ++ group-lines p h Survive
+    ++ group-lines (question-line p) h Survive
     ++ claims-lines p (h .months)
-    ++ group-lines p h (Both 0)
-    ++ group-lines p h (High 0)
-    ++ group-lines p h (Low 0)
+    ++ group-lines (question-line p) h (Both 0)
+    ++ group-lines (question-line p) h (High 0)
+    ++ group-lines (question-line p) h (Low 0)
     ++ ruin-lines p
   where
     p : Plan
@@ -42,8 +42,7 @@ report-of bytes =
 
 -- what the questions of a report need of the workspace: those of an accepted plan, group by group, and none of a refused one
 abbrev pub plan-needs : Head → ℕ
-plan-needs h =
-    max (ruins-need h) (max (group-needs h (Low 0)) (max (group-needs h (High 0)) (max (group-needs h (Both 0)) (group-needs h Survive))))
+plan-needs h = max (ruins-need h) (groups-need h)
 
 unfoldable pub report-needs : List ℕ → ℕ
 report-needs bytes = cond (eqb (read-refusal bytes row-room) 0) (plan-needs (head-of bytes)) 0

@@ -2,7 +2,7 @@
 use model::limits;
 ghost use mathlib.Core.Path.{_≡_};
 ghost use lib.ListN.{length, replicate};
-ghost use Rattle.model.specs.Limits.{row-room, survival-room, bounds-room, workspace-room};
+ghost use Rattle.model.specs.Limits.{row-room, rows-room, survival-room, bounds-room, workspace-room};
 
 // A plan's row.
 pub fn blank_row() -> [u32; limits::ROW]
@@ -10,6 +10,14 @@ pub fn blank_row() -> [u32; limits::ROW]
     ensures sized { λ r. ⌜ row-room ≡ length r ⌝ }
 {
     [0; limits::ROW]
+}
+
+// The rows of a mixture's plans, end to end.
+pub fn blank_rows() -> [u32; limits::ROWS]
+    ensures blank { λ r. ⌜ r ≡ replicate rows-room 0 ⌝ }
+    ensures sized { λ r. ⌜ rows-room ≡ length r ⌝ }
+{
+    [0; limits::ROWS]
 }
 
 // The workspace of every question.

@@ -10,10 +10,10 @@ ghost use Rattle.tree_nodes.specs.Nodes.{leads as Nodes·leads};
 use model::Question;
 use model::SCALE;
 use numbers::lesser;
+use numbers::product;
 use plain_engine::steps::claims_after;
 use plain_engine::steps::followed;
 use plain_engine::steps::level_allowed;
-use plain_engine::steps::product;
 use questions::needs::opening_allowed;
 
 // A node of a month: its level and, for both, the claims left to place.

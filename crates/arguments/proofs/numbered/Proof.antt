@@ -1,8 +1,9 @@
 -- `numbered` meets its contract, word by word.
 use mathlib.Core.Path.{_≡_, sym, _∙_}
 use Rattle.text.specs.Text.{ascii}
-use Rattle.arguments.specs.Words.{same-word}
-use Rattle.arguments.proofs.WordLaws.{told, by-both, by-high, by-low, by-none}
+use Rattle.numbers.specs.Same.{same}
+use Rattle.numbers.proofs.Same.{told}
+use Rattle.arguments.proofs.WordLaws.{by-both, by-high, by-low, by-none}
 use borrow.Author.Needs.{needs}
 use Rattle.arguments.proofs.numbered.Statement.{statement}
 use Rattle.arguments.proofs.numbered.Tie as tie
@@ -17,13 +18,13 @@ first-told c = c .before .before .before
 abbrev second-told : tie.After-same3 → tie.After-same2
 second-told c = c .before .before .before
 
-is-both : (c : tie.After-same) → c .same .result ≡ same-word (start c .args .word .now) (ascii "both")
+is-both : (c : tie.After-same) → c .same .result ≡ same (start c .args .word .now) (ascii "both")
 is-both c = told (start c .args .word .now) (ascii "both") (c .same .result) (c .same .ensures)
 
-is-high : (c : tie.After-same2) → c .same2 .result ≡ same-word (start (first-told c) .args .word .now) (ascii "high")
+is-high : (c : tie.After-same2) → c .same2 .result ≡ same (start (first-told c) .args .word .now) (ascii "high")
 is-high c = told (start (first-told c) .args .word .now) (ascii "high") (c .same2 .result) (c .same2 .ensures)
 
-is-low : (c : tie.After-same3) → c .same3 .result ≡ same-word (start (first-told (second-told c)) .args .word .now) (ascii "low")
+is-low : (c : tie.After-same3) → c .same3 .result ≡ same (start (first-told (second-told c)) .args .word .now) (ascii "low")
 is-low c = told (start (first-told (second-told c)) .args .word .now) (ascii "low") (c .same3 .result) (c .same3 .ensures)
 
 slice-aggregate-same : tie.Need-slice-aggregate-same

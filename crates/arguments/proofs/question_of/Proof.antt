@@ -4,8 +4,10 @@ use borrow.Author.Tests.{not-true, not-false}
 use Rattle.text.specs.Text.{ascii}
 use Rattle.arguments.specs.declared.Number.{Number}
 use Rattle.arguments.specs.Numbers.{number-of}
-use Rattle.arguments.specs.Words.{same-word, by-word}
-use Rattle.arguments.proofs.WordLaws.{told, no-word, one-word, other-word, no-number, many-words, two-words}
+use Rattle.numbers.specs.Same.{same}
+use Rattle.numbers.proofs.Same.{told}
+use Rattle.arguments.specs.Words.{by-word}
+use Rattle.arguments.proofs.WordLaws.{no-word, one-word, other-word, no-number, many-words, two-words}
 use borrow.Author.Needs.{needs}
 use Rattle.arguments.proofs.question_of.Statement.{statement}
 use Rattle.arguments.proofs.question_of.Tie as tie
@@ -20,7 +22,7 @@ one c = c .before .before
 abbrev written : tie.After-struct-known → tie.Else2
 written c = c .before .before
 
-is-survive : (c : tie.After-same) → c .same .result ≡ same-word (start (one c .before) .args .word .now) (ascii "survive")
+is-survive : (c : tie.After-same) → c .same .result ≡ same (start (one c .before) .args .word .now) (ascii "survive")
 is-survive c = told (start (one c .before) .args .word .now) (ascii "survive") (c .same .result) (c .same .ensures)
 
 -- what was written is the number

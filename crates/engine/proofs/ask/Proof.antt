@@ -12,7 +12,7 @@ use Rattle.model.specs.declared.Rounding.the-variants.{Down, Up}
 use Rattle.model.specs.Plan.{plan-of}
 use Rattle.model.specs.Levels.{row-levels}
 use Rattle.model.specs.MonthRule.{opening-allowed}
-use Rattle.model.specs.Bounds.{bound}
+use Rattle.model.specs.Bounds.{bound, EnclosesQuestion}
 use Rattle.model.specs.Refusal.{outside, workspace-needed, ask-refusal}
 use Rattle.model.proofs.Facts.{facts, accepted-head}
 use Rattle.model.proofs.Rooms.{rows-few}
@@ -101,7 +101,7 @@ returns-2 c =
     let needed = at-needed .workspace-needed in
     let else1 = unrefused (forbidden at-needed) in
     let a = of-test (forbidden at-needed) .args in
-    answered-out (call .result) _ (needed .result) (workspace-needed (a .ask)) (a .workspace .now) _ (none-refused else1) (call .ensures .0)
+    answered-out (EnclosesQuestion (plan-of (a .ask .head) (a .row .now)) (a .ask .question)) (call .result) _ (needed .result) (workspace-needed (a .ask)) (a .workspace .now) _ (none-refused else1) (call .ensures .0)
     (no-bound (at-needed .before) Down) (no-bound (at-needed .before) Up) (call .ensures .1) (needed .ensures)
     (enclosure (a .ask .head) (a .row .now) (known else1 .accepted) (a .ask .question))
 
@@ -181,7 +181,7 @@ returns-3 c =
     let at-shape = worked .before .before in
     let else1 = answered at-shape in
     let a = of-shape at-shape .args in
-    answered-out (call .result) _ (2 * rows-size (at-shape .shape-of .result)) (workspace-needed (a .ask)) (a .workspace .now) _ (none-refused else1)
+    answered-out (EnclosesQuestion (plan-of (a .ask .head) (a .row .now)) (a .ask .question)) (call .result) _ (2 * rows-size (at-shape .shape-of .result)) (workspace-needed (a .ask)) (a .workspace .now) _ (none-refused else1)
     (call .ensures .0) (bound-of at-shape Down) (bound-of at-shape Up) (call .ensures .1) (needed-is at-shape)
     (enclosure (a .ask .head) (a .row .now) (known else1 .accepted) (a .ask .question))
 

@@ -9,7 +9,7 @@ use Rattle.model.specs.declared.Rounding.{Rounding}
 use Rattle.model.specs.declared.Rounding.the-variants.{Down, Up}
 use Rattle.model.specs.Plan.{plan-of}
 use Rattle.model.specs.Levels.{row-levels}
-use Rattle.model.specs.Bounds.{ruin-bound}
+use Rattle.model.specs.Bounds.{ruin-bound, EnclosesRuin}
 use Rattle.model.specs.Refusal.{outside, month-outside, survival-workspace, ruin-refusal}
 use Rattle.model.proofs.Facts.{Facts, facts, accepted-head, horizon-is}
 use Rattle.model.proofs.Theorems.{ruin-enclosure}
@@ -136,7 +136,7 @@ returns-2 c =
     let a = of-shape at-shape .args in
     let h = a .head in
     let row = a .row .now in
-    answered-out (call .result) _ (2 * rows-size (at-shape .shape-of .result)) (survival-workspace h) (a .workspace .now) _
+    answered-out (EnclosesRuin (plan-of h row) (a .month)) (call .result) _ (2 * rows-size (at-shape .shape-of .result)) (survival-workspace h) (a .workspace .now) _
     (sym (else1 .before .ruin-refusal .ensures) ∙ else1 .if1 .left) (call .ensures .0) (bound-of at-shape Down) (bound-of at-shape Up) (call .ensures .1)
     (needed-is at-shape)
     (ruin-enclosure h row (known else1 .accepted) (a .month) (inside else1 .0) (rw (horizon-is h row (fits else1 .row-is)) (inside else1 .1)))

@@ -22,7 +22,7 @@ use Rattle.plain_engine.proofs.steps.claims_after.Reads as claims-after
 use Rattle.plain_engine.proofs.steps.followed.Reads as followed-reads
 use Rattle.plain_engine.proofs.steps.last_value.Reads as last-value-reads
 use Rattle.plain_engine.proofs.steps.level_value.Reads as level-value-reads
-use Rattle.plain_engine.proofs.steps.product.Reads as product-reads
+use Rattle.numbers.proofs.product.Reads as product-reads
 use Rattle.rounding.proofs.month_value.Reads as month-value-reads
 use Rattle.plain_engine.proofs.value.+value.{statement}
 use Rattle.plain_engine.proofs.value.+value.Tie.{close}

@@ -1,10 +1,10 @@
--- `product` meets its contract: a product of two numbers of 32 bits fits 64.
+-- `numbers::product` meets its contract: a product of two numbers of 32 bits fits 64.
 use Prim.Native.Nat.{_≤_}
 use native.Mathlib.Nat.{mul-le-mul}
 use native.Mathlib.Omega.{arith}
 use borrow.Author.Needs.{needs}
-use Rattle.plain_engine.proofs.steps.product.Statement.{statement}
-use Rattle.plain_engine.proofs.steps.product.Tie as tie
+use Rattle.numbers.proofs.product.Statement.{statement}
+use Rattle.numbers.proofs.product.Tie as tie
 
 mul-result : tie.Need-mul-result
 mul-result c =

@@ -1,0 +1,2 @@
+-- The report of a mixture as bytes: the whole, from its lines.
+pub mod Report

@@ -1,0 +1,4 @@
+pub mod Rooms
+pub mod Records
+pub mod Checksum
+pub mod Rounded
