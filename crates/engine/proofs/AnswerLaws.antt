@@ -13,7 +13,7 @@ use Rattle.model.specs.declared.Ask.{Ask}
 use Rattle.model.specs.declared.Question.{Question}
 use Rattle.model.specs.declared.Question.the-variants.{Survive}
 use Rattle.model.specs.declared.Rounding.{Rounding}
-use Rattle.model.specs.Plan.{Plan, nth, plan-of, row-length}
+use Rattle.model.specs.Plan.{nth, plan-of, row-length}
 use Rattle.model.specs.Levels.{largest-level, row-levels}
 use Rattle.model.specs.MonthRule.{month, values, all-placed, last-of, opening-allowed, ruin-row, carried-back}
 use Rattle.model.specs.Bounds.{bound, ruin-bound}

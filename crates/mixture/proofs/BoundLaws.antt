@@ -1,25 +1,22 @@
 -- The bounds of a mixture: enclosure, gap and limits from those of its plans, and what equal plans come to.
 use Prim.{Unit, tt}
-use Prim.Native.Nat.{ℕ, zero, suc, _+_, _*_, _-_, _^_, _<_, _≤_, max, zero-le}
+use Prim.Native.Nat.{ℕ, suc, _+_, _*_, _-_, _^_, _≤_, zero-le}
 use mathlib.Core.Path.{_≡_, refl, sym, ap, _∙_}
-use mathlib.Core.Bool.{Bool, true, false, not, _||_}
-use mathlib.Core.List.{List, [], _∷_, map}
+use mathlib.Core.Bool.{not}
+use mathlib.Core.List.{[], _∷_, map}
 use native.Mathlib.Omega.{arith}
-use native.Mathlib.Nat.{le-trans, le-refl, mul-assoc, mul-comm, mul-add, add-mul, zero-mul, mul-zero, add-zero, mul-le-mul-left, le-of-mul-le-mul-right}
-use lib.ListN.{length, getD}
-use borrow.Author.Tests.{not-false}
+use native.Mathlib.Nat.{le-refl, mul-assoc, mul-comm, mul-add, add-mul, zero-mul, mul-zero, add-zero, mul-le-mul-left, le-of-mul-le-mul-right}
 use Rattle.model.specs.declared.Rounding.{Rounding}
 use Rattle.model.specs.declared.Rounding.the-variants.{Down, Up}
 use Rattle.model.specs.declared.Question.{Question}
 use Rattle.model.specs.Scale.{S, quotient}
-use Rattle.model.specs.Sums.{total, any}
+use Rattle.model.specs.Sums.{total}
 use Rattle.model.specs.Plan.{Plan, nth, horizon}
 use Rattle.model.specs.Exact.{exact}
 use Rattle.model.specs.Bounds.{bound, lower, upper, live-months, EnclosesQuestion, largest}
-use Rattle.model.proofs.Facts.{neither}
 use Rattle.model.proofs.Quotients.{Direction, downwards, upwards, times-right, quotient-gap, quotient-le, quotient-add}
 use Rattle.model.proofs.Month.{scale-positive, nth-le-total}
-use Rattle.mixture_plans.specs.Components.{Component, Components, weights-of, plans-of, alike, unlike}
+use Rattle.mixture_plans.specs.Components.{Component, Components, weights-of, plans-of}
 use Rattle.mixture.specs.Bounds.{weighted-sum, mixture-bound, exact-mixture, months-of, widest, widest-gap, most-live-months, EnclosesMixture, MixtureLimits}
 
 -- what holds of each plan of a mixture

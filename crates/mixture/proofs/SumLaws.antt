@@ -2,7 +2,7 @@
 use Prim.{tt}
 use Prim.Native.Nat.{ℕ, suc, _+_, _*_, _-_, _<_, _≤_, max}
 use mathlib.Core.Path.{_≡_, refl, sym, ap, _∙_}
-use mathlib.Core.Bool.{Bool, true, false, not, _||_}
+use mathlib.Core.Bool.{true, false, not}
 use mathlib.Core.List.{List, [], _∷_, map, zipWith}
 use native.Mathlib.Numerals.{add-one}
 use native.Mathlib.Omega.{arith}
@@ -29,14 +29,13 @@ use Rattle.engine.specs.declared.Answer.{Answer}
 use Rattle.engine.specs.Answers.{bounds-answer, answer, workspace-after}
 use Rattle.engine.proofs.AnswerLaws.{number-is, bounds-are}
 use Rattle.mixture_plans.specs.declared.Mixture.{Mixture}
-use Rattle.mixture_plans.specs.Components.{Component, Components, weights-of, plans-of, alike, unlike}
-use Rattle.mixture_plans.specs.Rows.{HeadRow, plan-at, plan-rows, heads-used, weights-used, rows-of, plans-in, weighed, components-of}
+use Rattle.mixture_plans.specs.Components.{Components, weights-of, alike}
+use Rattle.mixture_plans.specs.Rows.{HeadRow, plan-at, plan-rows, heads-used, weights-used, rows-of, weighed, components-of}
 use Rattle.mixture_plans.specs.Refusal.{each-checks, plans-head, ask-of-one}
 use Rattle.mixture_plans.proofs.RowLaws.{Next, next, heads-from}
 use Rattle.mixture_plans.proofs.AlikeLaws.{alike-means, Matching, matching-none, here, here-same, matching-next}
 use Rattle.mixture_plans.proofs.CheckLaws.{MixtureFacts, first-plan, weights-are}
 use Rattle.mixture.specs.Bounds.{weighted-sum, mixture-bound, months-of, EnclosesMixture, MixtureLimits}
-use Rattle.mixture.specs.Sums.{lower-sum, upper-sum}
 use Rattle.mixture.proofs.BoundLaws.{Each, each-so, weighted-most, mixture-limits, mixture-encloses}
 
 -- what holds of every accepted plan holds of each plan of the mixture

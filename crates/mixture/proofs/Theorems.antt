@@ -1,8 +1,8 @@
 -- Laws of the call: a mixture of one plan, or of equal plans, answers what asking the plan answers.
 use Prim.{tt}
 use Prim.Native.Nat.{ℕ, zero, suc, _≤_}
-use mathlib.Core.Path.{_≡_, refl, sym, ap, ap₂, _∙_}
-use mathlib.Core.Bool.{Bool, true, false, not, _||_, cond}
+use mathlib.Core.Path.{_≡_, refl, sym, ap, _∙_}
+use mathlib.Core.Bool.{true, false, not, cond}
 use mathlib.Core.List.{List, [], _∷_, _++_, append-assoc, append-nil, map, flatMap, zipWith}
 use native.Mathlib.Omega.{arith}
 use native.Mathlib.Nat.{add-zero}
@@ -19,15 +19,14 @@ use Rattle.model.specs.Scale.{S}
 use Rattle.model.specs.Limits.{max-plans}
 use Rattle.model.specs.Sums.{total, any}
 use Rattle.model.specs.Plan.{Plan, plan-of, row-length}
-use Rattle.model.specs.Bounds.{bound, lower, upper}
+use Rattle.model.specs.Bounds.{bound}
 use Rattle.model.specs.Refusal.{first, plan-checks, plan-refusal, outside, workspace-needed, room-check, bounds-refusal, bounds-checks, asked-checks, ask-refusal}
-use Rattle.model.proofs.Facts.{plan-first, first-append}
-use Rattle.engine.specs.declared.Answer.{Answer}
-use Rattle.engine.specs.Answers.{bounds-answer, answer}
+use Rattle.model.proofs.Facts.{plan-first}
+use Rattle.engine.specs.Answers.{answer}
 use Rattle.mixture_plans.specs.declared.Mixture.{Mixture}
-use Rattle.mixture_plans.specs.Components.{Component, Components, weights-of, plans-of, alike, unlike, mixture-check}
+use Rattle.mixture_plans.specs.Components.{weights-of, plans-of, alike, unlike, mixture-check}
 use Rattle.mixture_plans.specs.Rows.{HeadRow, plan-at, plan-rows, heads-used, weights-used, rows-of, weighed, components-of}
-use Rattle.mixture_plans.specs.Refusal.{count-outside, each-checks, mixture-checks, mixture-refusal, plans-head, ask-of-one, mixture-ask-refusal}
+use Rattle.mixture_plans.specs.Refusal.{count-outside, each-checks, mixture-refusal, plans-head}
 use Rattle.mixture_plans.proofs.RowLaws.{each-next}
 use Rattle.mixture_plans.proofs.AlikeLaws.{means-alike}
 use Rattle.mixture_plans.proofs.CheckLaws.{weighed-weights, weighed-plans, by-rows, ask-checks}

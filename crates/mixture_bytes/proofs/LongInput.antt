@@ -3,7 +3,7 @@
 use Prim.Native.Nat.{ℕ, zero, suc, _+_, _*_, _-_, _<_, _≤_}
 use mathlib.Core.Path.{_≡_, refl, sym, ap, ap₂, _∙_}
 use mathlib.Core.Bool.{Bool, true, false, not, cond}
-use mathlib.Core.List.{List, [], _∷_, _++_, append-assoc, map}
+use mathlib.Core.List.{List, [], _∷_}
 use native.Mathlib.Nat.{suc-mul, mul-le-mul}
 use native.Mathlib.Omega.{arith}
 use lib.Dec.{eqb, ltb}
@@ -16,15 +16,14 @@ use Rattle.model.specs.Sums.{all}
 use Rattle.model.specs.Format.{head-bytes, head-of, byte-length}
 use Rattle.model.specs.Refusal.{first, head-checks, HeadAccepted, read-refusal}
 use Rattle.model.specs.Figures.{longest-plan}
-use Rattle.model.proofs.Facts.{numbered, neither, first-append}
+use Rattle.model.proofs.Facts.{neither}
 use Rattle.model.proofs.Rooms.{byte-length-fits, longest-between, figures}
 use Rattle.plan_bits.proofs.RefusalLaws.{readable}
 use Rattle.codec.proofs.LongInput.{same-head, first-part as LongInput·first-part}
-use Rattle.mixture_plans.specs.Components.{mixture-check}
 use Rattle.mixture_plans.specs.Refusal.{count-outside}
-use Rattle.mixture_bytes.specs.Format.{count-in, plans-start, part-of, plan-parts, parts-in, components-in}
+use Rattle.mixture_bytes.specs.Format.{count-in, plans-start, part-of, plan-parts, parts-in}
 use Rattle.mixture_bytes.specs.Input.{longest-mixture, mixture-input-room}
-use Rattle.mixture_bytes.specs.Refusal.{part-check, early-refusal, parts-refusal, count-checks, count-refusal, bytes-refusal}
+use Rattle.mixture_bytes.specs.Refusal.{early-refusal, parts-refusal, count-refusal, bytes-refusal}
 use Rattle.mixture_bytes.proofs.PartLaws.{early-is, parts-next, parts-first, count-then, by-outside, by-weights}
 
 -- what is left of the first part of a list

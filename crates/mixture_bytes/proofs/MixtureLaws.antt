@@ -1,28 +1,28 @@
 -- The mixture that bytes hold, as it is read: its plans' rows end to end, its components, and the refusal of the whole.
 use Prim.Native.Nat.{ℕ, zero, suc, _+_, _*_, _-_, _<_, _≤_}
 use mathlib.Core.Path.{_≡_, refl, sym, ap, ap₂, _∙_}
-use mathlib.Core.Bool.{Bool, true, false, not, cond}
+use mathlib.Core.Bool.{false, not, cond}
 use mathlib.Core.List.{List, [], _∷_, _++_, append-assoc, append-nil, map, flatMap}
 use native.Mathlib.Omega.{arith}
 use native.Mathlib.Nat.{zero-add, add-assoc, add-zero, mul-le-mul-right}
 use lib.Dec.{eqb, ltb}
-use lib.ListN.{length, getD, take, drop, length-append, length-take, length-drop}
-use lib.Seq.{take-all, take-at, drop-at, take-append-le, take-append-add, length-take-le, getD-take}
+use lib.ListN.{length, getD, take, drop, length-append, length-drop}
+use lib.Seq.{take-all, take-at, drop-at, length-take-le, getD-take}
 use borrow.Author.Tests.{ltb-false, eqb-false, ne-eqb}
 use Rattle.model.specs.declared.Head.{Head}
 use Rattle.model.specs.Limits.{max-plans, row-room, rows-room}
 use Rattle.model.specs.Plan.{row-length}
 use Rattle.model.specs.Format.{head-of, row-of}
-use Rattle.model.specs.Refusal.{first, plan-refusal, read-refusal}
+use Rattle.model.specs.Refusal.{first, read-refusal}
 use Rattle.model.proofs.Facts.{none-fits, neither, not-zero}
 use Rattle.plan_bits.proofs.RefusalLaws.{readable, row-is}
 use Rattle.mixture_plans.specs.declared.Mixture.{Mixture}
 use Rattle.mixture_plans.specs.Components.{mixture-check}
-use Rattle.mixture_plans.specs.Rows.{HeadRow, plan-rows, heads-used, weights-used, rows-of, weighed, components-of}
-use Rattle.mixture_plans.specs.Refusal.{count-outside, each-checks, mixture-refusal, MixtureAccepted, plans-head}
+use Rattle.mixture_plans.specs.Rows.{HeadRow, plan-rows, heads-used, rows-of, weighed, components-of}
+use Rattle.mixture_plans.specs.Refusal.{count-outside, each-checks, mixture-refusal, plans-head}
 use Rattle.mixture_plans.proofs.RowLaws.{each-next}
 use Rattle.mixture_plans.proofs.CheckLaws.{by-rows}
-use Rattle.mixture_bytes.specs.Format.{count-in, weights-in, plans-start, part-of, plan-parts, parts-in, head-row, components-in, head-in}
+use Rattle.mixture_bytes.specs.Format.{count-in, weights-in, plans-start, plan-parts, parts-in, head-row, components-in, head-in}
 use Rattle.mixture_bytes.specs.Refusal.{part-check, parts-refusal, count-checks, count-refusal, bytes-refusal}
 use Rattle.mixture_bytes.specs.Reading.{rows-after, rows-long, PlansRead, MixtureRead}
 use Rattle.mixture_bytes.proofs.PartLaws.{parts-next, parts-then, parts-first, count-then}

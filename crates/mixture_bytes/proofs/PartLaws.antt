@@ -6,19 +6,18 @@ use mathlib.Core.List.{List, [], _∷_, _++_, append-assoc, map}
 use mathlib.Core.Logic.{⊎-elim}
 use native.Mathlib.Omega.{arith}
 use lib.Dec.{eqb, ltb}
-use lib.ListN.{length, getD, take, drop, length-take, length-drop}
+use lib.ListN.{length, take, length-take}
 use lib.Seq.{take-all, length-take-le}
-use borrow.Author.Tests.{eq-eqb, ne-eqb, lt-ltb, le-ltb}
+use borrow.Author.Tests.{ne-eqb, lt-ltb, le-ltb}
 use Rattle.model.specs.declared.Head.{Head}
 use Rattle.model.specs.Sums.{all}
 use Rattle.model.specs.Limits.{row-room}
-use Rattle.model.specs.Plan.{row-length}
-use Rattle.model.specs.Format.{head-bits, head-bytes, head-of, row-of, bit-length, byte-length}
+use Rattle.model.specs.Format.{head-bits, head-bytes, head-of, bit-length, byte-length}
 use Rattle.model.specs.Refusal.{first, head-checks, HeadAccepted, read-refusal}
 use Rattle.model.proofs.Facts.{numbered, first-append}
 use Rattle.model.proofs.SumLaws.{below-or-not}
 use Rattle.model.proofs.MemoryLaws.{kept}
-use Rattle.plan_bits.proofs.RefusalLaws.{Readable, readable, read-short, read-head}
+use Rattle.plan_bits.proofs.RefusalLaws.{readable, read-short, read-head}
 use Rattle.codec.specs.declared.ReadAnswer.{ReadAnswer}
 use Rattle.codec.specs.Answers.{read-answer, row-after}
 use Rattle.codec.proofs.Answered.{head-number, head-answered}

@@ -1,14 +1,14 @@
 -- The plans of a mixture's bytes, read one after another into one row.
 use Prim.Native.Nat.{ℕ, zero, suc, _+_, _*_, _-_, _<_, _≤_}
 use mathlib.Core.Path.{_≡_, refl, sym, ap, _∙_}
-use mathlib.Core.Bool.{Bool, true, false, not, cond}
+use mathlib.Core.Bool.{Bool}
 use mathlib.Core.List.{List, [], _∷_, _++_, append-assoc, append-nil, map}
 use native.Mathlib.Numerals.{add-one}
 use native.Mathlib.Omega.{arith}
 use native.Mathlib.Nat.{zero-add, add-assoc, add-zero, mul-le-mul-right}
 use borrow.Rule.Slice.PartMut.{midOf, putMid, same-len-mid, put-same}
 use lib.Dec.{eqb}
-use lib.ListN.{length, take, drop, set, length-set, length-append, length-take, length-drop, take-append-drop}
+use lib.ListN.{length, take, drop, set, length-set, length-append, length-drop, take-append-drop}
 use lib.Seq.{take-all, take-suc-set, drop-drop, drop-append-le, length-take-le}
 use borrow.Author.Tests.{ne-eqb}
 use Rattle.model.specs.declared.Head.{Head}
@@ -16,10 +16,9 @@ use Rattle.model.specs.Limits.{max-plans, row-room, rows-room}
 use Rattle.model.specs.Plan.{row-length}
 use Rattle.model.specs.Format.{head-of, row-of, byte-length}
 use Rattle.model.specs.Refusal.{first, read-refusal}
-use Rattle.model.proofs.Facts.{head-facts}
 use Rattle.model.proofs.MemoryLaws.{filled}
 use Rattle.codec.specs.Answers.{row-after}
-use Rattle.plan_bits.proofs.RefusalLaws.{Readable, readable, row-is}
+use Rattle.plan_bits.proofs.RefusalLaws.{readable, row-is}
 use Rattle.mixture_plans.proofs.RowLaws.{none-after}
 use Rattle.mixture_bytes.specs.Format.{part-of, plan-parts}
 use Rattle.mixture_bytes.specs.Refusal.{part-check, parts-refusal}

@@ -15,7 +15,7 @@ use rooms::blank_rows;
 ghost use mathlib.Core.Path.{_≡_};
 ghost use mathlib.Core.Bool.{cond};
 ghost use Prim.Native.Nat.{_+_, _*_, _≤_, _<_, min};
-ghost use lib.ListN.{length, take, drop};
+ghost use lib.ListN.{length, take};
 ghost use Rattle.model.specs.Limits.{max-plans, row-room, rows-room};
 ghost use Rattle.model.specs.Format.{head-bytes, head-of, byte-length};
 ghost use Rattle.model.specs.Refusal.{HeadAccepted, read-refusal};

@@ -1,13 +1,13 @@
 -- The checks of a mixture in their order, and what is known of one that they pass.
-use Prim.Native.Nat.{ℕ, zero, suc, _+_, _<_, _≤_}
+use Prim.Native.Nat.{ℕ, suc, _+_, _≤_}
 use mathlib.Core.Path.{_≡_, refl, sym, ap, _∙_}
 use mathlib.Core.Bool.{Bool, true, false, not, _&&_, _||_, cond}
 use mathlib.Core.List.{List, [], _∷_, _++_, map, zipWith, flatMap}
 use native.Mathlib.Omega.{arith}
 use lib.Dec.{ltb, eqb}
-use lib.ListN.{length, take, drop, length-map}
+use lib.ListN.{length, drop, length-map}
 use lib.Seq.{length-take-le}
-use borrow.Author.Tests.{eq-eqb, eqb-true, eqb-false, ne-eqb, ltb-false, le-ltb, not-false}
+use borrow.Author.Tests.{eqb-true, eqb-false, ne-eqb, ltb-false, le-ltb, not-false}
 use Rattle.model.specs.declared.Head.{Head}
 use Rattle.model.specs.declared.Question.{Question}
 use Rattle.model.specs.Limits.{max-plans}
@@ -17,7 +17,7 @@ use Rattle.model.specs.Plan.{Plan}
 use Rattle.model.specs.Refusal.{first, plan-checks, HeadAccepted, outside, workspace-needed}
 use Rattle.model.proofs.Facts.{numbered, first-append, plan-numbered, none-fits, none-fits-append, neither, not-zero, accepted-head}
 use Rattle.mixture_plans.specs.declared.Mixture.{Mixture}
-use Rattle.mixture_plans.specs.Components.{Component, Components, weights-of, plans-of, unlike, mixture-check}
+use Rattle.mixture_plans.specs.Components.{weights-of, plans-of, unlike, mixture-check}
 use Rattle.mixture_plans.specs.Rows.{HeadRow, plan-at, plan-rows, heads-used, weights-used, rows-of, plans-in, weighed, components-of}
 use Rattle.mixture_plans.proofs.RowLaws.{Next}
 use Rattle.mixture_plans.proofs.AlikeLaws.{first-next}

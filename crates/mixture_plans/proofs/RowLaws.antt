@@ -1,8 +1,8 @@
 -- The rows of a mixture's plans, end to end: the next one and those after it, and the checks plan by plan.
-use Prim.Native.Nat.{ℕ, zero, suc, _+_, _-_, _<_, _≤_, min}
+use Prim.Native.Nat.{ℕ, suc, _+_, _-_, _<_, _≤_, min}
 use mathlib.Core.Path.{_≡_, refl, sym, ap, ap₂, _∙_}
 use mathlib.Core.Bool.{Bool, true, false, cond}
-use mathlib.Core.List.{List, [], _∷_, _++_, append-nil, flatMap}
+use mathlib.Core.List.{List, [], _∷_, flatMap}
 use mathlib.Core.Logic.{⊎-elim}
 use native.Mathlib.Numerals.{add-one}
 use native.Mathlib.Omega.{arith}
@@ -12,7 +12,7 @@ use lib.Seq.{take-all, take-length, drop-length, drop-cons, drop-drop, getD-take
 use borrow.Author.Tests.{eq-eqb, ne-eqb}
 use Rattle.model.specs.declared.Head.{Head}
 use Rattle.model.specs.Plan.{row-length}
-use Rattle.model.specs.Refusal.{first, head-checks, plan-checks, plan-refusal, HeadAccepted, Accepted}
+use Rattle.model.specs.Refusal.{first, head-checks, plan-checks, plan-refusal, Accepted}
 use Rattle.model.proofs.Facts.{facts, plan-first, plan-numbered, none-fits-append}
 use Rattle.model.proofs.SumLaws.{below-or-not}
 use Rattle.plan.proofs.Checks.{by-head}

@@ -5,7 +5,7 @@ use lib.ListN.{take, drop}
 use Rattle.model.specs.declared.Head.{Head}
 use Rattle.model.specs.Plan.{Plan, plan-of, row-length}
 use Rattle.mixture_plans.specs.declared.Mixture.{Mixture}
-use Rattle.mixture_plans.specs.Components.{Component, Components}
+use Rattle.mixture_plans.specs.Components.{Components}
 
 -- a head with the row that is taken for it
 abbrev pub HeadRow : Type 0

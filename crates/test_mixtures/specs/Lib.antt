@@ -1,4 +1,3 @@
 pub mod Rooms
 pub mod Records
-pub mod Checksum
 pub mod Rounded

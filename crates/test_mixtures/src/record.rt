@@ -3,7 +3,7 @@ ghost use mathlib.Core.Path.{_≡_};
 ghost use Prim.Native.Nat.{_+_, _*_, _≤_, _<_};
 ghost use lib.ListN.{length};
 ghost use Rattle.model.specs.Limits.{max-plans};
-ghost use Rattle.test_mixtures.specs.Records.{word-at, number-at, numbers-in, head-at, heads-in, weight-at, weights-in, question-of, record-of};
+ghost use Rattle.test_mixtures.specs.Records.{word-at, number-at, numbers-in, head-at, heads-in, weights-in, question-of, record-of};
 use mixture_plans::Mixture;
 use model::Head;
 use model::Question;

@@ -1,6 +1,5 @@
 // The parts of a line of the output, with one space between.
-ghost use mathlib.Core.Path.{_≡_};
-ghost use Rattle.test_vectors.specs.Checksum.{more, checksum};
+use checksums::checksum;
 use model::limits::PLACES;
 use numbers::index;
 use numbers::wide;
@@ -41,25 +40,4 @@ pub fn bytes(memory: &[u8]) {
 // Lent numbers, as their checksum.
 pub fn memory(numbers: &[u32]) {
     next(checksum(numbers));
-}
-
-const MODULUS: u64 = 1000000007;
-
-// A sum that depends on each number and its place.
-fn checksum(numbers: &[u32]) -> u64
-    ensures { λ r. ⌜ r ≡ checksum (now (numbers .entry)) ⌝ }
-{
-    let mut sum: u64 = 0;
-    let mut i = 0;
-    while i < numbers.len() {
-        sum = more(sum, numbers[i]);
-        i += 1;
-    }
-    sum
-}
-
-fn more(sum: u64, x: u32) -> u64
-    ensures { λ r. ⌜ r ≡ more sum x ⌝ }
-{
-    (sum % MODULUS * 31 + x as u64) % MODULUS
 }

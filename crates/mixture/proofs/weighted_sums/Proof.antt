@@ -1,11 +1,10 @@
 -- `weighted_sums` meets its contract. The loop's invariant: what the plans asked so far weigh together, and those that are left, are the whole.
-use Prim.Native.Nat.{_+_, _-_, _*_, _≤_, _<_}
-use mathlib.Core.Path.{_≡_, refl, sym, ap, _∙_}
+use Prim.Native.Nat.{_+_, _-_, _*_, _≤_}
+use mathlib.Core.Path.{_≡_, ap, _∙_}
 use mathlib.Core.Bool.{false}
 use native.Mathlib.Omega.{arith}
 use lib.ListN.{length, getD, take, drop}
 use borrow.Author.Needs.{needs}
-use Rattle.model.specs.declared.Head.{Head}
 use Rattle.model.specs.declared.Rounding.the-variants.{Down, Up}
 use Rattle.model.specs.Scale.{S}
 use Rattle.model.specs.Plan.{plan-of, row-length}

@@ -1,5 +1,5 @@
 -- `early_refusal` meets its contract: too few bytes, or the head's own number.
-use mathlib.Core.Path.{sym, ap, _∙_}
+use mathlib.Core.Path.{ap, _∙_}
 use borrow.Author.Needs.{needs}
 use borrow.Author.Tests.{lt-ltb, le-ltb}
 use Rattle.model.specs.declared.Head.{Head}

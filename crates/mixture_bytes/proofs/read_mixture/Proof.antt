@@ -1,6 +1,6 @@
 -- `read_mixture` meets its contract: what is told before the plans, what they are refused with, or the mixture that the bytes hold (`MixtureLaws`).
-use Prim.Native.Nat.{_+_, _*_, _≤_, _<_}
-use mathlib.Core.Path.{_≡_, sym, ap, _∙_}
+use Prim.Native.Nat.{_≤_}
+use mathlib.Core.Path.{_≡_, sym}
 use native.Mathlib.Omega.{arith}
 use lib.ListN.{length, length-take, length-drop}
 use lib.Seq.{length-take-le}

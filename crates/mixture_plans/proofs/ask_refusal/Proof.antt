@@ -6,7 +6,6 @@ use lib.Dec.{ltb}
 use borrow.Author.Needs.{needs}
 use Rattle.model.specs.Limits.{max-plans}
 use borrow.Author.Tests.{lt-ltb, le-ltb}
-use Rattle.model.proofs.Facts.{accepted-head}
 use Rattle.mixture_plans.specs.Refusal.{mixture-ask-refusal}
 use Rattle.mixture_plans.proofs.CheckLaws.{mapped-length, MixtureFacts, mixture-facts, ask-refused, ask-outside, ask-room, head-accepted}
 use Rattle.mixture_plans.proofs.ask_refusal.Statement.{statement}

@@ -1,5 +1,4 @@
 -- `count_is_outside` meets its contract: the two tests.
-use Rattle.model.specs.Limits.{max-plans}
 use Rattle.mixture_plans.specs.Refusal.{count-outside}
 use borrow.Author.Tests.{eq-eqb, ne-eqb}
 use Rattle.mixture_plans.proofs.count_is_outside.Statement.{statement}

@@ -1,11 +1,9 @@
 -- `each_refusal` meets its contract. The loop's invariant: the plans passed are accepted, so that those that are left decide.
 use mathlib.Core.Path.{_≡_, refl, sym, _∙_}
-use mathlib.Core.List.{List}
-use Prim.Native.Nat.{ℕ, _-_, _≤_}
+use Prim.Native.Nat.{_-_, _≤_}
 use native.Mathlib.Omega.{arith}
 use lib.ListN.{length}
 use borrow.Author.Needs.{needs}
-use Rattle.model.specs.declared.Head.{Head}
 use Rattle.model.specs.Limits.{max-plans}
 use Rattle.mixture_plans.proofs.RowLaws.{Checking, checking-start, checking-head, end-inside, checking-refused, checking-more, checking-done}
 use Rattle.mixture_plans.proofs.each_refusal.Statement.{statement}

@@ -1,5 +1,4 @@
 -- `is_unlike` meets its contract. The loop's invariant: the plans passed are alike to the first, so that those that are left decide.
-use mathlib.Core.Path.{_≡_}
 use Prim.Native.Nat.{_+_, _-_, _≤_}
 use native.Mathlib.Omega.{arith}
 use lib.ListN.{length, getD}

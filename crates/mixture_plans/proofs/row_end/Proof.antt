@@ -1,6 +1,5 @@
 -- `row_end` meets its contract, by whether the plan is the last.
-use mathlib.Core.Path.{ap}
-use Prim.Native.Nat.{ℕ, _+_, _-_, min}
+use Prim.Native.Nat.{_-_}
 use borrow.Author.Needs.{needs}
 use Rattle.mixture_plans.proofs.row_end.Statement.{statement}
 use Rattle.mixture_plans.proofs.row_end.Tie as tie

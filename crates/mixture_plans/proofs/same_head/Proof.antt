@@ -1,8 +1,6 @@
 -- `same_head` meets its contract, field by field.
-use mathlib.Core.Path.{_≡_, ap}
-use mathlib.Core.Bool.{true, false}
+use mathlib.Core.Path.{ap}
 use Rattle.model.specs.declared.Head.{Head}
-use borrow.Author.Tests.{eqb-true, eq-eqb}
 use Rattle.mixture_plans.proofs.AlikeLaws.{heads-differ, heads-same}
 use Rattle.mixture_plans.proofs.same_head.Statement.{statement}
 use Rattle.mixture_plans.proofs.same_head.Tie as tie

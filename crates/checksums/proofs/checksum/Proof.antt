@@ -1,4 +1,4 @@
--- `text::checksum` meets its contract. The loop's invariant: from the sum so far, the numbers left lead to the whole checksum.
+-- `checksum` meets its contract. The loop's invariant: from the sum so far, the numbers left lead to the whole checksum.
 use Prim.Native.Nat.{ℕ, _+_, _-_, _<_, _≤_}
 use mathlib.Core.Path.{_≡_, refl, sym, ap, _∙_}
 use mathlib.Core.List.{List, foldl}
@@ -6,9 +6,9 @@ use native.Mathlib.Numerals.{add-one}
 use borrow.Author.Needs.{needs}
 use lib.ListN.{length, getD, drop, drop-of-length-le}
 use lib.Seq.{drop-cons}
-use Rattle.test_vectors.specs.Checksum.{more, checksum}
-use Rattle.test_vectors.proofs.text.checksum.Statement.{statement}
-use Rattle.test_vectors.proofs.text.checksum.Tie as tie
+use Rattle.checksums.specs.Checksum.{more, checksum}
+use Rattle.checksums.proofs.checksum.Statement.{statement}
+use Rattle.checksums.proofs.checksum.Tie as tie
 
 -- the next number
 checksum-next :
