@@ -9,18 +9,18 @@ use borrow.Author.Tests.{eq-eqb, ne_eqb}
 use lib.ListN.{length, get_or, take, drop}
 use lib.Seq.{take-suc, take_all}
 use Rattle.model.specs.Sums.{any}
-use Rattle.plan.proofs.Rows.{any_next, any-end}
+use Rattle.plan.proofs.Rows.{any_next, any_end}
 use Rattle.arguments.specs.declared.Number.{Number}
-use Rattle.arguments.specs.Numbers.{not_digit, is_number, with-digit, spelled, most-number, number_of}
+use Rattle.arguments.specs.Numbers.{not_digit, is_number, with_digit, spelled, most_number, number_of}
 
 -- one more digit at the end
-pub spelled-more : (bs : List ℕ) (b : ℕ) → spelled (bs ++ b ∷ []) ≡ with-digit (spelled bs) b
+pub spelled_more : (bs : List ℕ) (b : ℕ) → spelled (bs ++ b ∷ []) ≡ with_digit (spelled bs) b
 unfolding spelled
-spelled-more bs b = foldl-append _ 0 bs (b ∷ [])
+spelled_more bs b = foldl-append _ 0 bs (b ∷ [])
 
 -- what was cut off before it is cut off after it
-cut-more : (n b : ℕ) → min (with-digit (min n most-number) b) most-number ≡ min (with-digit n b) most-number
-cut-more n b = omega arith
+cut_more : (n b : ℕ) → min (with_digit (min n most_number) b) most_number ≡ min (with_digit n b) most_number
+cut_more n b = omega arith
 
 -- the two answers
 abbrev pub read_as : ℕ → Number
@@ -33,41 +33,41 @@ unreadable = record { readable = false; value = 0 }
 pub record Spelling (argument : List ℕ) (number i : ℕ) : Type 0 where
   pub within : i ≤ length argument
   pub decides : any not_digit (drop i argument) ≡ any not_digit argument
-  pub so_far : number ≡ min (spelled (take i argument)) most-number
+  pub so_far : number ≡ min (spelled (take i argument)) most_number
 
 module _ (argument : List ℕ) where
-  pub nothing-spelled : length argument ≡ 0 → number_of argument ≡ unreadable
+  pub nothing_spelled : length argument ≡ 0 → number_of argument ≡ unreadable
   unfolding number_of is_number
-  nothing-spelled empty = rw (eq-eqb _ 0 empty)
+  nothing_spelled empty = rw (eq-eqb _ 0 empty)
 
-  pub spelling-none : Spelling argument 0 0
+  pub spelling_none : Spelling argument 0 0
   unfolding spelled
-  spelling-none = record { within = omega arith; decides = refl; so_far = refl }
+  spelling_none = record { within = omega arith; decides = refl; so_far = refl }
 
   module _ (number i : ℕ) (read : Spelling argument number i) where
-    pub spelling-more :
+    pub spelling_more :
         i < length argument
         → not_digit (get_or argument i 0) ≡ false
-        → Spelling argument (min (with-digit number (get_or argument i 0)) most-number) (i + 1)
-    spelling-more inside digit =
+        → Spelling argument (min (with_digit number (get_or argument i 0)) most_number) (i + 1)
+    spelling_more inside digit =
         record {
           within = omega arith;
           decides = sym (any_next argument i not_digit inside ∙ rw digit) ∙ read.decides;
           so_far =
-              ap (λ n. min (with-digit n (get_or argument i 0)) most-number) read.so_far
-              ∙ cut-more _ _
-              ∙ sym (rw (add-one, take-suc argument i 0 inside, spelled-more));
+              ap (λ n. min (with_digit n (get_or argument i 0)) most_number) read.so_far
+              ∙ cut_more _ _
+              ∙ sym (rw (add-one, take-suc argument i 0 inside, spelled_more));
         }
 
-    pub spelling-stopped : i < length argument → not_digit (get_or argument i 0) ≡ true → number_of argument ≡ unreadable
+    pub spelling_stopped : i < length argument → not_digit (get_or argument i 0) ≡ true → number_of argument ≡ unreadable
     unfolding number_of is_number
-    spelling-stopped inside other =
+    spelling_stopped inside other =
         let some : any not_digit argument ≡ true = sym read.decides ∙ any_next argument i not_digit inside ∙ rw other in
         rw (ne_eqb (length argument) 0 (λ z. omega (arith, z)), some)
 
-    pub spelling-done :
+    pub spelling_done :
         (length argument ≡ 0 → ⊥) → length argument ≤ i → number_of argument ≡ read_as number
     unfolding number_of is_number
-    spelling-done some all =
-        let none : any not_digit argument ≡ false = sym read.decides ∙ any-end argument i not_digit all in
+    spelling_done some all =
+        let none : any not_digit argument ≡ false = sym read.decides ∙ any_end argument i not_digit all in
         rw (ne_eqb _ 0 some, none, read.so_far, take_all i argument all)

@@ -14,19 +14,19 @@ unfoldable pub is_number : List ℕ → Bool
 is_number bytes = not (eqb (length bytes) 0 || any not_digit bytes)
 
 -- the number that digits spell, the most significant first
-abbrev pub with-digit : ℕ → ℕ → ℕ
-with-digit n byte = n * 10 + (byte - code "0")
+abbrev pub with_digit : ℕ → ℕ → ℕ
+with_digit n byte = n * 10 + (byte - code "0")
 
 unfoldable pub spelled : List ℕ → ℕ
-spelled bytes = foldl with-digit 0 bytes
+spelled bytes = foldl with_digit 0 bytes
 
 -- the largest number of 32 bits, far above S and every limit of a question
-abbrev pub most-number : ℕ
-most-number = 2 ^ 32 - 1
+abbrev pub most_number : ℕ
+most_number = 2 ^ 32 - 1
 
 -- the number of an argument: one too large for 32 bits is cut off there
 unfoldable pub number_of : List ℕ → Number
 number_of argument =
     cond (is_number argument)
-    (record { readable = true; value = min (spelled argument) most-number })
+    (record { readable = true; value = min (spelled argument) most_number })
     (record { readable = false; value = 0 })

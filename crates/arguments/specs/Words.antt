@@ -22,8 +22,8 @@ by_word word n =
     (cond (same word (ascii "low")) (read_as (Low n)) unread))
 
 -- the question of so many words: no word is survive, one is its word, two are the word of another question and its number
-unfoldable pub question-of : ℕ → List ℕ → List ℕ → Asked
-question-of count word number =
+unfoldable pub question_of : ℕ → List ℕ → List ℕ → Asked
+question_of count word number =
     cond (eqb count 0) (read_as Survive)
     (cond (eqb count 1) (cond (same word (ascii "survive")) (read_as Survive) unread)
     (cond (not (number_of number).readable || not (eqb count 2)) unread (by_word word (number_of number).value)))

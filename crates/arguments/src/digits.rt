@@ -1,6 +1,6 @@
 // A number in decimal, digit by digit.
 ghost use Rattle.std.specs.Prelude.{◌≡◌, min};
-ghost use Rattle.arguments.specs.Numbers.{not_digit, with-digit, most-number};
+ghost use Rattle.arguments.specs.Numbers.{not_digit, with_digit, most_number};
 
 use numbers::{difference, index, lesser};
 
@@ -18,7 +18,7 @@ pub fn not_digit(byte: u8) -> bool
 
 // A number with a digit more at its end.
 pub fn next_number(number: u32, byte: u8) -> u32
-    ensures { result ≡ min (with-digit number byte) most-number }
+    ensures { result ≡ min (with_digit number byte) most_number }
 {
     let digit = difference(index(byte), index(b'0'));
     lesser(number as usize * 10 + digit, MOST) as u32

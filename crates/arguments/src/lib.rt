@@ -3,7 +3,7 @@ mod digits;
 
 ghost use Rattle.std.specs.Prelude.{◌≡◌};
 ghost use Rattle.arguments.specs.Numbers.{number_of};
-ghost use Rattle.arguments.specs.Words.{read_as, unread, by_word, question-of};
+ghost use Rattle.arguments.specs.Words.{read_as, unread, by_word, question_of};
 
 use crate::digits::{next_number, not_digit};
 use check::same;
@@ -87,7 +87,7 @@ fn numbered(word: &[u8], number: usize) -> Asked
 
 // Reads a question from so many words, of which it takes the first two: none are survive, and the others are as the report has them.
 pub fn question_of(count: usize, word: &[u8], number: &[u8]) -> Asked
-    ensures { result ≡ question-of count word.now number.now }
+    ensures { result ≡ question_of count word.now number.now }
 {
     if count == 0 {
         return read(Question::Survive);

@@ -6,46 +6,46 @@ use native.Mathlib.Omega.{arith}
 use lib.ListN.{length, get_or}
 use Rattle.model.specs.declared.Head.{Head}
 use Rattle.model.specs.declared.Rounding.TheVariants.{Down, Up}
-use Rattle.model.specs.Plan.{plan-of, opened}
-use Rattle.model.proofs.TwoPlans.{survival-rises}
+use Rattle.model.specs.Plan.{plan_of, opened}
+use Rattle.model.proofs.TwoPlans.{survival_rises}
 use Rattle.engine.specs.declared.Answer.{Answer}
-use Rattle.engine.specs.Answers.{bounds-answer}
-use Rattle.survival.specs.Openings.{openings-refusal, bounds-after}
-use Rattle.survival.proofs.Theorems.{pair_is, pair-asked}
+use Rattle.engine.specs.Answers.{bounds_answer}
+use Rattle.survival.specs.Openings.{openings_refusal, bounds_after}
+use Rattle.survival.proofs.Theorems.{pair_is, pair_asked}
 use Rattle.opening_search.specs.declared.LeastAnswer.{LeastAnswer}
-use Rattle.opening_search.specs.Answers.{least-answer, Least}
-use Rattle.opening_search.proofs.Theorems.{answer-is-least}
-use Rattle.calls.proofs.LargerOpenings.{opened-grows}
+use Rattle.opening_search.specs.Answers.{least_answer, Least}
+use Rattle.opening_search.proofs.Theorems.{answer_is_least}
+use Rattle.calls.proofs.LargerOpenings.{opened_grows}
 
 -- the lent row after a call that was not refused
-module _ (h : Head) (row ws bounds : List ℕ) (none : openings-refusal h row (length ws) (length bounds) ≡ 0) where
+module _ (h : Head) (row ws bounds : List ℕ) (none : openings_refusal h row (length ws) (length bounds) ≡ 0) where
   abbrev left : List ℕ
-  left = bounds-after h row (length ws) bounds
+  left = bounds_after h row (length ws) bounds
 
   -- "neither survival bound falls when the opening grows"
-  pub pairs-rise : (v w : ℕ) → v ≤ w → w ≤ h.opening → (get_or left (2 * v) 0 ≤ get_or left (2 * w) 0) × (get_or left (2 * v + 1) 0 ≤ get_or left (2 * w + 1) 0)
-  pairs-rise v w l m =
+  pub pairs_rise : (v w : ℕ) → v ≤ w → w ≤ h.opening → (get_or left (2 * v) 0 ≤ get_or left (2 * w) 0) × (get_or left (2 * v + 1) 0 ≤ get_or left (2 * w + 1) 0)
+  pairs_rise v w l m =
       let one = pair_is h row ws bounds left refl none v (omega arith) in
       let other = pair_is h row ws bounds left refl none w m in
-      let grows = survival-rises (plan-of (opened h v) row) (plan-of (opened h w) row) (opened-grows h row v w l) in
+      let grows = survival_rises (plan_of (opened h v) row) (plan_of (opened h w) row) (opened_grows h row v w l) in
       (rw (one.0, other.0) (grows Down), rw (one.1, other.1) (grows Up))
 
   -- of a call of the least opening on the same plan, in a workspace of the same length: its pair, and that every earlier one falls short
-  module _ (target : ℕ) (found : (least-answer h row target (length ws)).refusal ≡ 0) where
+  module _ (target : ℕ) (found : (least_answer h row target (length ws)).refusal ≡ 0) where
     abbrev r : LeastAnswer
-    r = least-answer h row target (length ws)
+    r = least_answer h row target (length ws)
 
-    is-least : Least h row target (length ws) r
-    is-least = answer-is-least h row target (length ws) found
+    is_least : Least h row target (length ws) r
+    is_least = answer_is_least h row target (length ws) found
 
-    pub least-among-pairs : (get_or left (2 * r.opening) 0 ≡ r.lower) × (get_or left (2 * r.opening + 1) 0 ≡ r.upper)
-    unfolding bounds-answer
-    least-among-pairs =
-        let same = sym (pair-asked h row ws bounds left refl none r.opening is-least.allowed) ∙ is-least.asked in
+    pub least_among_pairs : (get_or left (2 * r.opening) 0 ≡ r.lower) × (get_or left (2 * r.opening + 1) 0 ≡ r.upper)
+    unfolding bounds_answer
+    least_among_pairs =
+        let same = sym (pair_asked h row ws bounds left refl none r.opening is_least.allowed) ∙ is_least.asked in
         (ap (λ (a : Answer). a.lower) same, ap (λ (a : Answer). a.upper) same)
 
-    pub earlier-pairs-miss : (v : ℕ) → v < r.opening → get_or left (2 * v) 0 < target
-    unfolding bounds-answer
-    earlier-pairs-miss v l =
-        let asked = pair-asked h row ws bounds left refl none v (omega (arith, is-least.allowed)) in
-        rw (← ap (λ (a : Answer). a.lower) asked) (is-least.smallest v l).below
+    pub earlier_pairs_miss : (v : ℕ) → v < r.opening → get_or left (2 * v) 0 < target
+    unfolding bounds_answer
+    earlier_pairs_miss v l =
+        let asked = pair_asked h row ws bounds left refl none v (omega (arith, is_least.allowed)) in
+        rw (← ap (λ (a : Answer). a.lower) asked) (is_least.smallest v l).below

@@ -5,35 +5,35 @@ use mathlib.Core.List.{List}
 use Prim.Native.Nat.{ℕ, ◌≤◌}
 use native.Mathlib.Nat.{le_trans}
 use Rattle.model.specs.declared.Head.{Head}
-use Rattle.model.specs.Plan.{plan-of, opened}
+use Rattle.model.specs.Plan.{plan_of, opened}
 use Rattle.model.specs.Sensitivity.{OnlyOpeningGrows}
 use Rattle.engine.specs.declared.Answer.{Answer}
-use Rattle.engine.specs.Answers.{bounds-answer, answer}
-use Rattle.survival.specs.Openings.{opening-ask}
+use Rattle.engine.specs.Answers.{bounds_answer, answer}
+use Rattle.survival.specs.Openings.{opening_ask}
 use Rattle.opening_search.specs.declared.LeastAnswer.{LeastAnswer}
-use Rattle.opening_search.specs.Answers.{least-answer, Least}
-use Rattle.opening_search.proofs.Theorems.{answer-is-least, allowed-answered}
-use Rattle.calls.proofs.TwoCalls.{survival-answers-rise}
+use Rattle.opening_search.specs.Answers.{least_answer, Least}
+use Rattle.opening_search.proofs.Theorems.{answer_is_least, allowed_answered}
+use Rattle.calls.proofs.TwoCalls.{survival_answers_rise}
 
 -- two openings of one plan
-pub opened-grows : (h : Head) (row : List ℕ) (v w : ℕ) → v ≤ w → OnlyOpeningGrows (plan-of (opened h v) row) (plan-of (opened h w) row)
-unfolding plan-of
-opened-grows h row v w l = record { opening = l; income = refl; chances = refl; severity = refl; tail = refl }
+pub opened_grows : (h : Head) (row : List ℕ) (v w : ℕ) → v ≤ w → OnlyOpeningGrows (plan_of (opened h v) row) (plan_of (opened h w) row)
+unfolding plan_of
+opened_grows h row v w l = record { opening = l; income = refl; chances = refl; severity = refl; tail = refl }
 
-module _ (h : Head) (row : List ℕ) (target room : ℕ) (found : (least-answer h row target room).refusal ≡ 0) where
+module _ (h : Head) (row : List ℕ) (target room : ℕ) (found : (least_answer h row target room).refusal ≡ 0) where
   abbrev r : LeastAnswer
-  r = least-answer h row target room
+  r = least_answer h row target room
 
-  abbrev is-least : Least h row target room r
-  is-least = answer-is-least h row target room found
+  abbrev is_least : Least h row target room r
+  is_least = answer_is_least h row target room found
 
-  asked-lower : (answer (opening-ask h r.opening) row room).lower ≡ r.lower
-  unfolding bounds-answer
-  asked-lower = ap (λ (a : Answer). a.lower) is-least.asked
+  asked_lower : (answer (opening_ask h r.opening) row room).lower ≡ r.lower
+  unfolding bounds_answer
+  asked_lower = ap (λ (a : Answer). a.lower) is_least.asked
 
-  pub larger-would-do : (v : ℕ) → r.opening ≤ v → v ≤ h.opening → target ≤ (answer (opening-ask h v) row room).lower
-  larger-would-do v l m =
-      le_trans is-least.enough
-      (rw asked-lower at
-      (survival-answers-rise (opened h r.opening) row (opened h v) row room room
-      (allowed-answered h row target room found r.opening is-least.allowed) (allowed-answered h row target room found v m) (opened-grows h row r.opening v l)).0)
+  pub larger_would_do : (v : ℕ) → r.opening ≤ v → v ≤ h.opening → target ≤ (answer (opening_ask h v) row room).lower
+  larger_would_do v l m =
+      le_trans is_least.enough
+      (rw asked_lower at
+      (survival_answers_rise (opened h r.opening) row (opened h v) row room room
+      (allowed_answered h row target room found r.opening is_least.allowed) (allowed_answered h row target room found v m) (opened_grows h row r.opening v l)).0)

@@ -10,38 +10,38 @@ use lib.Seq.{drop-cons}
 use Rattle.model.specs.Scale.{S}
 use Rattle.model.specs.Sums.{sum, total}
 use Rattle.model.specs.Plan.{nth}
-use Rattle.model.specs.MonthRule.{claim-sum}
-use Rattle.model.specs.FilledSizes.{filled-sizes, filled-sum, filled-count}
-use Rattle.model.proofs.SumLaws.{sum-ext, sum-last, total-append}
-use Rattle.model.proofs.Month.{claim-sum-fits}
-use Rattle.model.proofs.FilledLaws.{filled-total, filled-sum-is, filled-inside, filled-count-is, filled-all}
-use Rattle.claims.specs.Values.{from-top, Parts}
-use Rattle.claims.specs.Listing.{sum-term, SizesIn, NoGap, ListsRange}
+use Rattle.model.specs.MonthRule.{claim_sum}
+use Rattle.model.specs.FilledSizes.{filled_sizes, filled_sum, filled_count}
+use Rattle.model.proofs.SumLaws.{sum_ext, sum_last, total_append}
+use Rattle.model.proofs.Month.{claim_sum_fits}
+use Rattle.model.proofs.FilledLaws.{filled_total, filled_sum_is, filled_inside, filled_count_is, filled_all}
+use Rattle.claims.specs.Values.{from_top, Parts}
+use Rattle.claims.specs.Listing.{sum_term, SizesIn, NoGap, ListsRange}
 
 -- a weight and a value read one place before their size
-pub product-read :
-    (F after : List ℕ) (x weight value : ℕ) → 0 < x → weight ≡ get_or F (x - 1) 0 → value ≡ get_or after (x - 1) 0 → weight * value ≡ sum-term F after x
+pub product_read :
+    (F after : List ℕ) (x weight value : ℕ) → 0 < x → weight ≡ get_or F (x - 1) 0 → value ≡ get_or after (x - 1) 0 → weight * value ≡ sum_term F after x
 unfolding nth
-product-read F after zero weight value l ew ev = absurd (omega arith)
-product-read F after (suc x) weight value l ew ev = let here : suc x - 1 ≡ x = omega arith in rw (ew, ev, here)
+product_read F after zero weight value l ew ev = absurd (omega arith)
+product_read F after (suc x) weight value l ew ev = let here : suc x - 1 ≡ x = omega arith in rw (ew, ev, here)
 
 -- The loop over the listed sizes: the sum so far and the sum over the rest are the whole.
 pub record ListSumming (f : ℕ → ℕ) (sizes : List ℕ) (sum k : ℕ) : Type 0 where
   pub within : k ≤ length sizes
   pub whole : sum + total (map f (drop k sizes)) ≡ total (map f sizes)
 
-pub list-summing-turn :
+pub list_summing_turn :
     (f : ℕ → ℕ) (sizes : List ℕ) (sum k term : ℕ) → k < length sizes → term ≡ f (get_or sizes k 0) → ListSumming f sizes sum k →
     (sum + term ≤ total (map f sizes)) × ListSumming f sizes (sum + term) (k + 1)
 unfolding total
-list-summing-turn f sizes sum k term l e h =
+list_summing_turn f sizes sum k term l e h =
     let more : total (map f (drop k sizes)) ≡ term + total (map f (drop (k + 1) sizes)) = rw (add-one, e, drop-cons sizes k 0 l) in
     (omega (arith, more, h.whole), record { within = omega arith; whole = omega (arith, more, h.whole) })
 
-pub list-summing-end :
+pub list_summing_end :
     (f : ℕ → ℕ) (sizes : List ℕ) (sum k : ℕ) → length sizes ≤ k → ListSumming f sizes sum k → (sum ≡ total (map f sizes)) × (k ≡ length sizes)
 unfolding total
-list-summing-end f sizes sum k l h =
+list_summing_end f sizes sum k l h =
     let none : total (map f (drop k sizes)) ≡ 0 = rw (drop_of_length-le sizes {i = k} l) in
     (omega (arith, none, h.whole), omega (arith, h.within))
 
@@ -50,24 +50,24 @@ pub record DownSumming (f : ℕ → ℕ) (most so_far products x : ℕ) : Type 0
   pub passed : products + x ≡ most
   pub whole : so_far + sum x f ≡ sum most f
 
-pub down-summing-turn :
+pub down_summing_turn :
     (f : ℕ → ℕ) (most so_far products x term : ℕ) → 0 < x → term ≡ f (suc (x - 1)) → DownSumming f most so_far products x →
     (so_far + term ≤ sum most f) × DownSumming f most (so_far + term) (products + 1) (x - 1)
-down-summing-turn f most so_far products x term l e h =
+down_summing_turn f most so_far products x term l e h =
     let here : suc (x - 1) ≡ x = omega arith in
-    let more : sum x f ≡ sum (x - 1) f + term = omega (arith, e, sum-last (x - 1) f, ap (λ (n : ℕ). sum n f) here) in
+    let more : sum x f ≡ sum (x - 1) f + term = omega (arith, e, sum_last (x - 1) f, ap (λ (n : ℕ). sum n f) here) in
     (omega (arith, more, h.whole), record { passed = omega (arith, h.passed); whole = omega (arith, more, h.whole) })
 
-pub down-summing-end :
+pub down_summing_end :
     (f : ℕ → ℕ) (most so_far products x : ℕ) → x ≤ 0 → DownSumming f most so_far products x → (so_far ≡ sum most f) × (products ≡ most)
 unfolding sum
-down-summing-end f most so_far products zero l h = (omega (arith, h.whole), omega (arith, h.passed))
-down-summing-end f most so_far products (suc x) l h = absurd (omega arith)
+down_summing_end f most so_far products zero l h = (omega (arith, h.whole), omega (arith, h.passed))
+down_summing_end f most so_far products (suc x) l h = absurd (omega arith)
 
 -- The filled sizes of a range in two parts: those listed, and all of the sizes 1 to `low`.
 pub record Parted (F after sizes : List ℕ) (low : ℕ) : Type 0 where
-  pub count : length sizes + low ≡ filled-count F (length after + 1)
-  pub sums : total (map (sum-term F after) sizes) + sum low (sum-term F after) ≡ sum (min (length after) (length F)) (sum-term F after)
+  pub count : length sizes + low ≡ filled_count F (length after + 1)
+  pub sums : total (map (sum_term F after) sizes) + sum low (sum_term F after) ≡ sum (min (length after) (length F)) (sum_term F after)
 
 pub parted :
     (F after sizes : List ℕ) (dense low : ℕ) → ListsRange F sizes dense (min (length after) (length F)) → NoGap F dense →
@@ -75,19 +75,19 @@ pub parted :
 unfolding nth
 parted F after sizes dense low e h el =
     record {
-      count = omega (arith, length-append sizes (filled-sizes F low), all, ap length whole, rw less at (filled-count-is F (length after + 1)));
+      count = omega (arith, length-append sizes (filled_sizes F low), all, ap length whole, rw less at (filled_count_is F (length after + 1)));
       sums =
-          ap (λ (t : ℕ). total (map f sizes) + t) (sym (filled-total F f empty low))
-          ∙ sym (ap total (map-append f sizes (filled-sizes F low)) ∙ total-append (map f sizes) (map f (filled-sizes F low)))
+          ap (λ (t : ℕ). total (map f sizes) + t) (sym (filled_total F f empty low))
+          ∙ sym (ap total (map-append f sizes (filled_sizes F low)) ∙ total_append (map f sizes) (map f (filled_sizes F low)))
           ∙ ap (λ (ys : List ℕ). total (map f ys)) whole
-          ∙ filled-total F f empty n;
+          ∙ filled_total F f empty n;
     }
   where
     n : ℕ
     n = min (length after) (length F)
 
     f : ℕ → ℕ
-    f = sum-term F after
+    f = sum_term F after
 
     less : length after + 1 - 1 ≡ length after
     less = omega arith
@@ -95,30 +95,30 @@ parted F after sizes dense low e h el =
     empty : (x : ℕ) → get_or F x 0 ≡ 0 → get_or F x 0 * get_or after x 0 ≡ 0
     empty x e = ap (λ (w : ℕ). w * get_or after x 0) e ∙ zero-mul (get_or after x 0)
 
-    all : length (filled-sizes F low) ≡ low
-    all = filled-all F low (λ i l. h.filled i (omega arith) (omega arith))
+    all : length (filled_sizes F low) ≡ low
+    all = filled_all F low (λ i l. h.filled i (omega arith) (omega arith))
 
-    whole : sizes ++ filled-sizes F low ≡ filled-sizes F n
-    whole = ap (λ (k : ℕ). sizes ++ filled-sizes F k) el ∙ e
+    whole : sizes ++ filled_sizes F low ≡ filled_sizes F n
+    whole = ap (λ (k : ℕ). sizes ++ filled_sizes F k) el ∙ e
 
 -- a listed size in range has a weight and a value
-pub sizes-in : (F sizes : List ℕ) (dense n : ℕ) → ListsRange F sizes dense n → SizesIn n sizes
-sizes-in F sizes dense n e =
+pub sizes_in : (F sizes : List ℕ) (dense n : ℕ) → ListsRange F sizes dense n → SizesIn n sizes
+sizes_in F sizes dense n e =
     record {
       each = λ k l.
-          let longer : k < length (filled-sizes F n) = omega (arith, length-append sizes (filled-sizes F (min n dense)), ap length e) in
-          rw (← get_or-append sizes (filled-sizes F (min n dense)) 0 k l, e) (filled-inside F n k longer);
+          let longer : k < length (filled_sizes F n) = omega (arith, length-append sizes (filled_sizes F (min n dense)), ap length e) in
+          rw (← get_or-append sizes (filled_sizes F (min n dense)) 0 k l, e) (filled_inside F n k longer);
     }
 
 -- The sum over the range, of values from the level that many places hold down to 1, is the claim sum from the large end.
 pub whole_sum :
     (F after : List ℕ) →
-    sum (min (length after) (length F)) (sum-term F after) ≡ filled-sum F (from-top (length after) after) (length after + 1)
-unfolding claim-sum nth
+    sum (min (length after) (length F)) (sum_term F after) ≡ filled_sum F (from_top (length after) after) (length after + 1)
+unfolding claim_sum nth
 whole_sum F after =
-    sum-ext (min m (length F)) (sum-term F after) (λ x. nth F x * from-top m after (m + 1 - x)) (λ i l. same i (omega arith))
-    ∙ ap (λ (k : ℕ). sum (min k (length F)) (λ x. nth F x * from-top m after (m + 1 - x))) less
-    ∙ sym (filled-sum-is F (from-top m after) (m + 1))
+    sum_ext (min m (length F)) (sum_term F after) (λ x. nth F x * from_top m after (m + 1 - x)) (λ i l. same i (omega arith))
+    ∙ ap (λ (k : ℕ). sum (min k (length F)) (λ x. nth F x * from_top m after (m + 1 - x))) less
+    ∙ sym (filled_sum_is F (from_top m after) (m + 1))
   where
     m : ℕ
     m = length after
@@ -129,8 +129,8 @@ whole_sum F after =
     same : (i : ℕ) → i < m → get_or F i 0 * get_or after i 0 ≡ get_or F i 0 * get_or after (m - (m + 1 - suc i)) 0
     same i l = let place : i ≡ m - (m + 1 - suc i) = omega arith in ap (λ (k : ℕ). get_or F i 0 * get_or after k 0) place
 
-pub whole-fits :
-    (F after : List ℕ) → total F ≤ S → Parts after → sum (min (length after) (length F)) (sum-term F after) ≤ S * S
-whole-fits F after hF hV =
-    rw (whole_sum F after, filled-sum-is F (from-top (length after) after) (length after + 1))
-    (claim-sum-fits F (from-top (length after) after) hF (λ s. hV.each _) (length after + 1))
+pub whole_fits :
+    (F after : List ℕ) → total F ≤ S → Parts after → sum (min (length after) (length F)) (sum_term F after) ≤ S * S
+whole_fits F after hF hV =
+    rw (whole_sum F after, filled_sum_is F (from_top (length after) after) (length after + 1))
+    (claim_sum_fits F (from_top (length after) after) hF (λ s. hV.each _) (length after + 1))

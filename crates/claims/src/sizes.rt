@@ -1,8 +1,8 @@
 // The sizes of a table that are not empty. A question lists them once.
 ghost use Rattle.std.specs.Prelude.{◌≡◌, ◌++◌, ◌≤◌, length, take, drop};
-ghost use Rattle.model.specs.Limits.{max-sizes};
-ghost use Rattle.model.specs.FilledSizes.{filled-sizes};
-ghost use Rattle.claims.specs.Listing.{gapless, in-range, Listing};
+ghost use Rattle.model.specs.Limits.{max_sizes};
+ghost use Rattle.model.specs.FilledSizes.{filled_sizes};
+ghost use Rattle.claims.specs.Listing.{gapless, in_range, Listing};
 
 use model::limits;
 
@@ -30,8 +30,8 @@ pub struct FilledSizes {
 
 // The filled sizes above `dense`.
 fn filled_above(severity: &[u32], dense: usize) -> FilledSizes
-    requires { (length severity.now ≤ max-sizes) × (dense ≤ length severity.now) }
-    ensures listed { take result.count result.sizes ++ filled-sizes severity.now dense ≡ filled-sizes severity.now (length severity.now) }
+    requires { (length severity.now ≤ max_sizes) × (dense ≤ length severity.now) }
+    ensures listed { take result.count result.sizes ++ filled_sizes severity.now dense ≡ filled_sizes severity.now (length severity.now) }
     ensures sized { (result.count ≤ length result.sizes) × (result.dense ≡ dense) }
 {
     let mut sizes = [0; limits::SIZES];
@@ -53,7 +53,7 @@ fn filled_above(severity: &[u32], dense: usize) -> FilledSizes
 
 // All filled sizes of a table.
 pub fn list_sizes(severity: &[u32]) -> FilledSizes
-    requires { length severity.now ≤ max-sizes }
+    requires { length severity.now ≤ max_sizes }
     ensures listed { Listing severity.now (take result.count result.sizes) result.dense }
     ensures sized { (result.count ≤ length result.sizes) × (result.count ≡ length (take result.count result.sizes)) }
 {
@@ -64,7 +64,7 @@ pub fn list_sizes(severity: &[u32]) -> FilledSizes
 // From where on, at `from` or later, the listed sizes are at most `most`.
 pub fn first_within(sizes: &[usize], from: usize, most: usize) -> usize
     requires { from ≤ length sizes.now }
-    ensures within { drop result sizes.now ≡ in-range most (drop from sizes.now) }
+    ensures within { drop result sizes.now ≡ in_range most (drop from sizes.now) }
     ensures inside { result ≤ length sizes.now }
 {
     let mut k = from;

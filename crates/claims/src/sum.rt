@@ -2,9 +2,9 @@
 ghost use Rattle.std.specs.Prelude.{◌≡◌, map, ◌+◌, ◌*◌, ◌/◌, ◌%◌, ◌<◌, ◌≤◌, min, length};
 ghost use Rattle.model.specs.Scale.{S};
 ghost use Rattle.model.specs.Sums.{sum, total};
-ghost use Rattle.model.specs.FilledSizes.{filled-sum, filled-count};
-ghost use Rattle.claims.specs.Listing.{sum-term, SizesIn, NoGap, ListsRange};
-ghost use Rattle.claims.specs.Values.{from-top, Parts};
+ghost use Rattle.model.specs.FilledSizes.{filled_sum, filled_count};
+ghost use Rattle.claims.specs.Listing.{sum_term, SizesIn, NoGap, ListsRange};
+ghost use Rattle.claims.specs.Values.{from_top, Parts};
 
 use model::WIDE_SCALE;
 use numbers::{lesser, wide};
@@ -27,8 +27,8 @@ struct ProductSum {
 // Over the listed sizes, in their order.
 fn listed_sum(severity: &[u32], sizes: &[usize], after: &[u32]) -> ProductSum
     requires sizes_in { SizesIn (min (length after.now) (length severity.now)) sizes.now }
-    requires sizes_bound { total (map (sum-term severity.now after.now) sizes.now) ≤ S * S }
-    ensures sum { result.sum ≡ total (map (sum-term severity.now after.now) sizes.now) }
+    requires sizes_bound { total (map (sum_term severity.now after.now) sizes.now) ≤ S * S }
+    ensures sum { result.sum ≡ total (map (sum_term severity.now after.now) sizes.now) }
     ensures products { result.products ≡ length sizes.now }
 {
     let mut sum: u64 = 0;
@@ -44,8 +44,8 @@ fn listed_sum(severity: &[u32], sizes: &[usize], after: &[u32]) -> ProductSum
 // Over the sizes 1 to `most`, from the largest down.
 fn dense_sum(severity: &[u32], after: &[u32], most: usize) -> ProductSum
     requires most_bound { most ≤ min (length after.now) (length severity.now) }
-    requires after_bound { sum most (sum-term severity.now after.now) ≤ S * S }
-    ensures sum { result.sum ≡ sum most (sum-term severity.now after.now) }
+    requires after_bound { sum most (sum_term severity.now after.now) ≤ S * S }
+    ensures sum { result.sum ≡ sum most (sum_term severity.now after.now) }
     ensures products { result.products ≡ most }
 {
     let mut sum: u64 = 0;
@@ -66,9 +66,9 @@ pub fn claim_sum(severity: &[u32], sizes: &[usize], dense: usize, after: &[u32])
     requires severity_bound { total severity.now ≤ S }
     requires lists_range { ListsRange severity.now sizes.now dense (min (length after.now) (length severity.now)) }
     requires no_gap { NoGap severity.now dense }
-    ensures quotient { result.quotient ≡ filled-sum severity.now (from-top (length after.now) after.now) (length after.now + 1) / S }
-    ensures remainder { result.remainder ≡ filled-sum severity.now (from-top (length after.now) after.now) (length after.now + 1) % S }
-    ensures products { result.products ≡ filled-count severity.now (length after.now + 1) }
+    ensures quotient { result.quotient ≡ filled_sum severity.now (from_top (length after.now) after.now) (length after.now + 1) / S }
+    ensures remainder { result.remainder ≡ filled_sum severity.now (from_top (length after.now) after.now) (length after.now + 1) % S }
+    ensures products { result.products ≡ filled_count severity.now (length after.now + 1) }
 {
     let most = lesser(after.len(), severity.len());
     let low = lesser(most, dense);

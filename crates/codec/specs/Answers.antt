@@ -6,39 +6,39 @@ use Rattle.codec.specs.declared.ReadAnswer.{ReadAnswer}
 use Rattle.codec.specs.declared.BytePlan.{BytePlan}
 use Rattle.codec.specs.declared.WriteAnswer.{WriteAnswer}
 use Rattle.model.specs.Limits.{row_room}
-use Rattle.model.specs.Plan.{row-length}
-use Rattle.model.specs.Format.{head_of, row_of, byte-length, bytes_of}
-use Rattle.model.specs.Memory.{filled-after}
-use Rattle.model.specs.Refusal.{read-refusal, write-refusal}
+use Rattle.model.specs.Plan.{row_length}
+use Rattle.model.specs.Format.{head_of, row_of, byte_length, bytes_of}
+use Rattle.model.specs.Memory.{filled_after}
+use Rattle.model.specs.Refusal.{read_refusal, write_refusal}
 
-unfoldable pub no-head : Head
-no-head = record { months = 0; opening = 0; sizes = 0; income = 0 }
+unfoldable pub no_head : Head
+no_head = record { months = 0; opening = 0; sizes = 0; income = 0 }
 
 -- a call that answers a head
-unfoldable pub head-answer : ℕ → Head → ReadAnswer
-head-answer refusal h = cond (eqb refusal 0) (record { refusal = 0; head = h }) (record { refusal = refusal; head = no-head })
+unfoldable pub head_answer : ℕ → Head → ReadAnswer
+head_answer refusal h = cond (eqb refusal 0) (record { refusal = 0; head = h }) (record { refusal = refusal; head = no_head })
 
 -- a call that answers a length
-unfoldable pub length-answer : ℕ → ℕ → WriteAnswer
-length-answer refusal n = cond (eqb refusal 0) (record { refusal = 0; length = n }) (record { refusal = refusal; length = 0 })
+unfoldable pub length_answer : ℕ → ℕ → WriteAnswer
+length_answer refusal n = cond (eqb refusal 0) (record { refusal = 0; length = n }) (record { refusal = refusal; length = 0 })
 
 -- the answer to reading bytes, with a lent row of the given length, and the lent row after it
 abbrev pub read_answer : List ℕ → ℕ → ReadAnswer
-read_answer bytes room = head-answer (read-refusal bytes room) (head_of bytes)
+read_answer bytes room = head_answer (read_refusal bytes room) (head_of bytes)
 
-abbrev pub row-after : List ℕ → List ℕ → List ℕ
-row-after bytes row = filled-after (read-refusal bytes (length row)) (row-length (head_of bytes)) (row_of bytes) row
+abbrev pub row_after : List ℕ → List ℕ → List ℕ
+row_after bytes row = filled_after (read_refusal bytes (length row)) (row_length (head_of bytes)) (row_of bytes) row
 
 -- a plan read from bytes into a row of its own
-unfoldable pub byte-plan : List ℕ → BytePlan
-byte-plan bytes = record { refusal = a.refusal; head = a.head; row = row-after bytes (replicate row_room 0) }
+unfoldable pub byte_plan : List ℕ → BytePlan
+byte_plan bytes = record { refusal = a.refusal; head = a.head; row = row_after bytes (replicate row_room 0) }
   where
     a : ReadAnswer
     a = read_answer bytes row_room
 
 -- the answer to writing a head and a row, with lent bytes of the given length, and the lent bytes after it
-abbrev pub write-answer : Head → List ℕ → ℕ → WriteAnswer
-write-answer h row room = length-answer (write-refusal h row room) (byte-length h)
+abbrev pub write_answer : Head → List ℕ → ℕ → WriteAnswer
+write_answer h row room = length_answer (write_refusal h row room) (byte_length h)
 
 abbrev pub bytes_after : Head → List ℕ → List ℕ → List ℕ
-bytes_after h row bytes = filled-after (write-refusal h row (length bytes)) (byte-length h) (bytes_of h row) bytes
+bytes_after h row bytes = filled_after (write_refusal h row (length bytes)) (byte_length h) (bytes_of h row) bytes

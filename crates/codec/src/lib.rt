@@ -1,6 +1,6 @@
 // Plan bytes: reading them into a lent row, and writing a head and a row into lent bytes.
 ghost use Rattle.std.specs.Prelude.{◌≡◌, length};
-ghost use Rattle.codec.specs.Answers.{read_answer, row-after, byte-plan, write-answer, bytes_after};
+ghost use Rattle.codec.specs.Answers.{read_answer, row_after, byte_plan, write_answer, bytes_after};
 
 use model::{Head, limits};
 use plan_bits::{format, reading, writing};
@@ -31,7 +31,7 @@ pub struct WriteAnswer {
 // Reads a plan: its row fills the first numbers of the lent row, the rest of which is untouched, as all of it is if the plan is refused.
 pub fn read(bytes: &[u8], row: &mut [u32]) -> ReadAnswer
     ensures answer { result ≡ read_answer bytes.now (length row.old) }
-    ensures memory { row.new ≡ row-after bytes.now row.old }
+    ensures memory { row.new ≡ row_after bytes.now row.old }
 {
     let room = row.len();
     let wrong = reading::refusal(bytes, room);
@@ -59,7 +59,7 @@ pub fn read(bytes: &[u8], row: &mut [u32]) -> ReadAnswer
 
 // Reads a plan into a row of its own.
 pub fn read_plan(bytes: &[u8]) -> BytePlan
-    ensures { result ≡ byte-plan bytes.now }
+    ensures { result ≡ byte_plan bytes.now }
 {
     let mut row = blank_row();
     let answer = read(bytes, &mut row);
@@ -73,7 +73,7 @@ pub fn read_plan(bytes: &[u8]) -> BytePlan
 
 // Writes a plan: its bytes fill the first of the lent bytes, the rest of which is untouched, as all of them are if the plan is refused.
 pub fn write(head: Head, row: &[u32], bytes: &mut [u8]) -> WriteAnswer
-    ensures answer { result ≡ write-answer head row.now (length bytes.old) }
+    ensures answer { result ≡ write_answer head row.now (length bytes.old) }
     ensures memory { bytes.new ≡ bytes_after head row.now bytes.old }
 {
     let room = bytes.len();

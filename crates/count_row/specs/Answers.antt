@@ -5,25 +5,25 @@ use Rattle.model.specs.declared.Rounding.TheVariants.{Down, Up}
 use Rattle.count_row.specs.declared.CountRow.{CountRow}
 use Rattle.count_row.specs.declared.CountAnswer.{CountAnswer}
 use Rattle.model.specs.Limits.{places}
-use Rattle.model.specs.Plan.{plan-of}
-use Rattle.model.specs.CountRow.{count-row, tabulate}
-use Rattle.model.specs.Refusal.{count-refusal}
+use Rattle.model.specs.Plan.{plan_of}
+use Rattle.model.specs.CountRow.{count_row, tabulate}
+use Rattle.model.specs.Refusal.{count_refusal}
 
 -- "It comes back whole, as a row of … lower and a row of … upper bounds"
-unfoldable pub count-rows : List ℕ → CountRow
-count-rows chances =
-    record { lower = tabulate places (count-row Down chances); upper = tabulate places (count-row Up chances) }
+unfoldable pub count_rows : List ℕ → CountRow
+count_rows chances =
+    record { lower = tabulate places (count_row Down chances); upper = tabulate places (count_row Up chances) }
 
 -- the count row of a refusal
-unfoldable pub count-refused : ℕ → CountAnswer
-count-refused number = record { refusal = number; row = record { lower = replicate places 0; upper = replicate places 0 } }
+unfoldable pub count_refused : ℕ → CountAnswer
+count_refused number = record { refusal = number; row = record { lower = replicate places 0; upper = replicate places 0 } }
 
 -- the answer of the count row call
-unfoldable pub count-answer : Head → List ℕ → CountAnswer
-count-answer h row =
+unfoldable pub count_answer : Head → List ℕ → CountAnswer
+count_answer h row =
     cond (eqb number 0)
-    (record { refusal = 0; row = count-rows (plan-of h row).chances })
-    (count-refused number)
+    (record { refusal = 0; row = count_rows (plan_of h row).chances })
+    (count_refused number)
   where
     number : ℕ
-    number = count-refusal h row
+    number = count_refusal h row

@@ -1,11 +1,11 @@
 // The count row, month by month.
 ghost use Rattle.std.specs.Prelude.{◌≡◌, ◌<◌, ◌≤◌, [], length};
 ghost use Rattle.model.specs.Scale.{S};
-ghost use Rattle.model.specs.CountRow.{count-month, tabulate};
+ghost use Rattle.model.specs.CountRow.{count_month, tabulate};
 ghost use Rattle.claims.specs.Values.{Parts};
 ghost use Rattle.month_rows.specs.Rows.{at};
-ghost use Rattle.count_row.specs.Counts.{CountParts, rows-after};
-ghost use Rattle.count_row.specs.Answers.{count-rows, count-refused};
+ghost use Rattle.count_row.specs.Counts.{CountParts, rows_after};
+ghost use Rattle.count_row.specs.Answers.{count_rows, count_refused};
 
 use crate::{CountAnswer, CountRow};
 use model::{Rounding, limits};
@@ -14,7 +14,7 @@ use rounding::mixture;
 // A row through one month, in place from the last place down: place k reads the places k and k - 1.
 fn count_month(row: &mut [u32], chance: u32, round: Rounding)
     requires { (0 < length row.old) × Parts row.old × (chance ≤ S) }
-    ensures { row.new ≡ tabulate (length row.old) (count-month round chance (at row.old)) }
+    ensures { row.new ≡ tabulate (length row.old) (count_month round chance (at row.old)) }
 {
     let mut k = row.len() - 1;
     while k > 0 {
@@ -26,7 +26,7 @@ fn count_month(row: &mut [u32], chance: u32, round: Rounding)
 
 // The answer of a refusal.
 pub fn refused(refusal: u32) -> CountAnswer
-    ensures { result ≡ count-refused refusal }
+    ensures { result ≡ count_refused refusal }
 {
     CountAnswer {
         refusal,
@@ -39,7 +39,7 @@ pub fn refused(refusal: u32) -> CountAnswer
 
 // The rows after no months: no claim for sure.
 fn first_rows() -> CountRow
-    ensures { result ≡ count-rows [] }
+    ensures { result ≡ count_rows [] }
 {
     let mut row = [0; limits::PLACES];
     row[0] = model::SCALE;
@@ -53,7 +53,7 @@ impl CountRow {
     // The rows after one more month with this chance.
     fn month(mut self, chance: u32) -> CountRow
         requires { CountParts self × (chance ≤ S) }
-        ensures { result ≡ rows-after chance self }
+        ensures { result ≡ rows_after chance self }
     {
         let mut lower = self.lower;
         let mut upper = self.upper;
@@ -68,7 +68,7 @@ impl CountRow {
 // The rows after all months, in their order.
 pub fn count_rows(chances: &[u32]) -> CountRow
     requires { Parts chances.now }
-    ensures { result ≡ count-rows chances.now }
+    ensures { result ≡ count_rows chances.now }
 {
     let mut row = first_rows();
     let mut t = 0;

@@ -3,9 +3,9 @@ mod counts;
 
 ghost use Rattle.std.specs.Prelude.{◌≡◌, ℕ, ◌<◌, get_or};
 ghost use Rattle.model.specs.Limits.{places};
-ghost use Rattle.model.specs.Plan.{plan-of};
+ghost use Rattle.model.specs.Plan.{plan_of};
 ghost use Rattle.model.specs.Bounds.{EnclosesCount};
-ghost use Rattle.count_row.specs.Answers.{count-answer};
+ghost use Rattle.count_row.specs.Answers.{count_answer};
 
 use model::{Head, limits};
 
@@ -25,9 +25,9 @@ pub struct CountAnswer {
 
 // The bounds for each number of claims in the plan's months, ruin or not.
 pub fn count_claims(head: Head, row: &[u32]) -> CountAnswer
-    ensures answered { result ≡ count-answer head row.now }
+    ensures answered { result ≡ count_answer head row.now }
     ensures encloses { result.refusal ≡ 0 → (k : ℕ) → k < places →
-        EnclosesCount (plan-of head row.now) k (get_or result.row.lower k 0) (get_or result.row.upper k 0) }
+        EnclosesCount (plan_of head row.now) k (get_or result.row.lower k 0) (get_or result.row.upper k 0) }
 {
     let number = plan::plan_refusal(head, row);
     if number != 0 {

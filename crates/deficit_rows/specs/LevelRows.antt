@@ -3,13 +3,13 @@
 use Rattle.std.specs.Prelude.{ℕ, ◌-◌, ◌≤◌, ◌<◌, ◌≡◌, cond, List, eqb, length, get_or}
 use Rattle.model.specs.declared.Rounding.{Rounding}
 use Rattle.model.specs.declared.Question.TheVariants.{Survive}
-use Rattle.model.specs.Levels.{largest-level}
-use Rattle.model.specs.MonthRule.{Row, month, values, rule-of}
-use Rattle.claims.specs.Values.{from-top, Parts}
+use Rattle.model.specs.Levels.{largest_level}
+use Rattle.model.specs.MonthRule.{Row, month, values, rule_of}
+use Rattle.claims.specs.Values.{from_top, Parts}
 
 -- a value at one level, and 0 at all others
-unfoldable pub one-level : ℕ → ℕ → Row
-one-level level value s = cond (eqb s level) value 0
+unfoldable pub one_level : ℕ → ℕ → Row
+one_level level value s = cond (eqb s level) value 0
 
 -- a row in memory whose last place holds 0, as every place beyond it counts
 pub record EndsInZero (row : List ℕ) : Type 0 where
@@ -21,5 +21,5 @@ pub record EndsInZero (row : List ℕ) : Type 0 where
 pub record LedBack (round : Rounding) (severity : List ℕ) (income opening : ℕ) (chances before after : List ℕ) : Type 0 where
   pub each :
       (s : ℕ) → s ≤ opening →
-      from-top opening after s
-      ≡ values (month round income severity) (rule-of Survive) (λ k. from-top (largest-level income opening (length chances)) before) chances 0 s
+      from_top opening after s
+      ≡ values (month round income severity) (rule_of Survive) (λ k. from_top (largest_level income opening (length chances)) before) chances 0 s

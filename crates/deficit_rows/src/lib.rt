@@ -3,11 +3,11 @@ ghost use Rattle.std.specs.Prelude.{◌≡◌, ◌+◌, ◌-◌, ◌^◌, ◌<�
 ghost use Rattle.model.specs.declared.Rounding.TheVariants.{Down, Up};
 ghost use Rattle.model.specs.declared.Question.TheVariants.{Survive};
 ghost use Rattle.model.specs.Scale.{S};
-ghost use Rattle.model.specs.Levels.{largest-level};
-ghost use Rattle.model.specs.MonthRule.{month, values, rule-of};
+ghost use Rattle.model.specs.Levels.{largest_level};
+ghost use Rattle.model.specs.MonthRule.{month, values, rule_of};
 ghost use Rattle.claims.specs.Listing.{Listing};
 ghost use Rattle.month_rule.specs.Months.{PlanTerms};
-ghost use Rattle.deficit_rows.specs.LevelRows.{one-level, EndsInZero, LedBack};
+ghost use Rattle.deficit_rows.specs.LevelRows.{one_level, EndsInZero, LedBack};
 
 use claims::sizes::list_sizes;
 use model::{Bounds, Rounding};
@@ -26,7 +26,7 @@ fn months_back(
     round: Rounding,
 )
     requires ends_in_zero { EndsInZero row.old }
-    requires income_nonzero { (0 < income) × (largest-level income opening (length chances.now) < 2 ^ 63) }
+    requires income_nonzero { (0 < income) × (largest_level income opening (length chances.now) < 2 ^ 63) }
     requires plan_terms { PlanTerms severity.now chances.now }
     requires listing { Listing severity.now sizes.now dense }
     ensures back { LedBack round severity.now income opening chances.now row.old row.new }
@@ -68,10 +68,10 @@ fn value_back(
     round: Rounding,
 ) -> u32
     requires row_len { (length row.old ≡ paid + 2) × (value ≤ S) }
-    requires income_nonzero { (0 < income) × (largest-level income opening (length chances.now) < 2 ^ 63) × (paid ≤ largest-level income opening (length chances.now)) }
+    requires income_nonzero { (0 < income) × (largest_level income opening (length chances.now) < 2 ^ 63) × (paid ≤ largest_level income opening (length chances.now)) }
     requires plan_terms { PlanTerms severity.now chances.now }
     requires listing { Listing severity.now sizes.now dense }
-    ensures value { result ≡ values (month round income severity.now) (rule-of Survive) (λ k. one-level (largest-level income opening (length chances.now) - paid) value) chances.now 0 opening }
+    ensures value { result ≡ values (month round income severity.now) (rule_of Survive) (λ k. one_level (largest_level income opening (length chances.now) - paid) value) chances.now 0 opening }
     ensures cleared { row.new ≡ replicate (length row.old) 0 }
 {
     fill(row, 0);
@@ -94,10 +94,10 @@ pub fn bounds_back(
     severity: &[u32],
 ) -> Bounds
     requires row_len { (length row.old ≡ paid + 2) × (lower ≤ S) × (upper ≤ S) }
-    requires income_nonzero { (0 < income) × (largest-level income opening (length chances.now) < 2 ^ 63) × (paid ≤ largest-level income opening (length chances.now)) }
+    requires income_nonzero { (0 < income) × (largest_level income opening (length chances.now) < 2 ^ 63) × (paid ≤ largest_level income opening (length chances.now)) }
     requires plan_terms { PlanTerms severity.now chances.now }
-    ensures lower { result.lower ≡ values (month Down income severity.now) (rule-of Survive) (λ k. one-level (largest-level income opening (length chances.now) - paid) lower) chances.now 0 opening }
-    ensures upper { result.upper ≡ values (month Up income severity.now) (rule-of Survive) (λ k. one-level (largest-level income opening (length chances.now) - paid) upper) chances.now 0 opening }
+    ensures lower { result.lower ≡ values (month Down income severity.now) (rule_of Survive) (λ k. one_level (largest_level income opening (length chances.now) - paid) lower) chances.now 0 opening }
+    ensures upper { result.upper ≡ values (month Up income severity.now) (rule_of Survive) (λ k. one_level (largest_level income opening (length chances.now) - paid) upper) chances.now 0 opening }
     ensures cleared { row.new ≡ replicate (length row.old) 0 }
 {
     let filled = list_sizes(severity);

@@ -17,7 +17,7 @@ use lib.Ieee.Positive.{num, den, den_pos}
 use lib.Ieee.Scale.{finite}
 use Rattle.model.specs.Scale.{S}
 use Rattle.doubles.specs.Doubles.{nought, scale, within, parts}
-use Rattle.doubles.proofs.RangeLaws.{Unit, UpTo, yes, unit, up_to, up-to-back, up-to-value, up-to-finite, up-to-size, within-up-to, within-small}
+use Rattle.doubles.proofs.RangeLaws.{Unit, UpTo, yes, unit, up_to, up_to_back, up_to_value, up_to_finite, up_to_size, within_up_to, within_small}
 use Rattle.doubles.proofs.RoundLaws.{sized}
 
 -- ---- by any fraction that the double's size is, whatever its sign
@@ -27,25 +27,25 @@ fraction nan a c v = absurd v
 fraction (inf t) a c v = absurd v
 fraction (fin t m e) a c v = v
 
-pub parts-as : (x : Float) (a c : ℕ) → 0 < c → Equals x a c → parts x ≡ a * S / c
+pub parts_as : (x : Float) (a c : ℕ) → 0 < c → Equals x a c → parts x ≡ a * S / c
 unfolding parts
-parts-as x a c some v =
+parts_as x a c some v =
     div_same (num x * S) (den x) (a * S) c (den_pos x) some
     (mul_right_comm (num x) S c ∙ ap (λ (k : ℕ). k * S) (fraction x a c v) ∙ mul_right_comm a (den x) S)
 
-whole-as : (x : Float) (a c : ℕ) → 0 < c → Equals x a c → num x / den x ≡ a / c
-whole-as x a c some v = div_same (num x) (den x) a c (den_pos x) some (fraction x a c v)
+whole_as : (x : Float) (a c : ℕ) → 0 < c → Equals x a c → num x / den x ≡ a / c
+whole_as x a c some v = div_same (num x) (den x) a c (den_pos x) some (fraction x a c v)
 
-size-as : (k : ℕ) (x : Float) (a c : ℕ) → UpTo k x → Equals x a c → a ≤ 2 ^ k * c
-size-as k x a c u v =
+size_as : (k : ℕ) (x : Float) (a c : ℕ) → UpTo k x → Equals x a c → a ≤ 2 ^ k * c
+size_as k x a c u v =
     le_of_mul-le-mul_right
-    (le_trans (le_of_eq (sym (fraction x a c v))) (le_trans (mul-le-mul_right c (up-to-size k x u)) (le_of_eq (mul_right_comm (2 ^ k) (den x) c))))
+    (le_trans (le_of_eq (sym (fraction x a c v))) (le_trans (mul-le-mul_right c (up_to_size k x u)) (le_of_eq (mul_right_comm (2 ^ k) (den x) c))))
     (den_pos x)
 
 -- no double in 0 to 1 has more than S parts
-pub parts-fit : (x : Float) → within x ≡ true → parts x ≤ S
+pub parts_fit : (x : Float) → within x ≡ true → parts x ≤ S
 unfolding parts
-parts-fit x h = div-le_of_le-mul (den x) (mul-le-mul_right S (within-small x h))
+parts_fit x h = div-le_of_le-mul (den x) (mul-le-mul_right S (within_small x h))
 
 -- ---- what a pattern's exponent and digits are read as, in units of 2^-1074
 
@@ -57,10 +57,10 @@ lead (suc j) t = 2 ^ 52 + t
 abbrev units : ℕ → ℕ → ℕ
 units e t = lead e t * 2 ^ pred e
 
-lead-fits : (e t : ℕ) → t < 2 ^ 52 → lead e t < 2 ^ 53
+lead_fits : (e t : ℕ) → t < 2 ^ 52 → lead e t < 2 ^ 53
 unfolding lead
-lead-fits zero t few = omega arith
-lead-fits (suc j) t few = omega arith
+lead_fits zero t few = omega arith
+lead_fits (suc j) t few = omega arith
 
 read : (s : Bool) (e t : ℕ) → T (finite (of_fields binary64 s e t)) → Equals (of_fields binary64 s e t) (units e t) (2 ^ 1074)
 unfolding of_fields lead
@@ -76,10 +76,10 @@ read s (suc j) t u = go (eqb (suc j) 2047) (eqb t 0) u
     go false b u = odd_val 53 s (2 ^ 52 + t) j 1074
 
 -- the exponent of a double of at most 2^30
-exponent-within : (e t : ℕ) → units e t ≤ 2 ^ 1104 → e ≤ 1053
+exponent_within : (e t : ℕ) → units e t ≤ 2 ^ 1104 → e ≤ 1053
 unfolding lead
-exponent-within zero t h = omega arith
-exponent-within (suc j) t h =
+exponent_within zero t h = omega arith
+exponent_within (suc j) t h =
     let power : 2 ^ (52 + j) ≤ 2 ^ 1104 = le_trans (le_of_eq (pow-add 2 52 j)) (le_trans (mul-le-mul_right (2 ^ j) (le-add_right (2 ^ 52) t)) h) in
     back j (le_of_suc-le-suc (lt_of_not-le (λ (g : suc 1104 ≤ 52 + j). lt_irrefl (2 ^ 1104) (lt_of_lt_of_le (pow-lt g) power))))
   where
@@ -88,17 +88,17 @@ exponent-within (suc j) t h =
 
 -- below an exponent of 1023 it is less than 1
 units_small : (e t : ℕ) → t < 2 ^ 52 → e < 1023 → units e t / 2 ^ 1074 ≡ 0
-units_small e t few low = div-eq_of_lt (lt_of_lt_of_le (shl_lt 53 (pred e) (lead-fits e t few)) (pow_mono {i = 53 + pred e} {j = 1074} (places e low)))
+units_small e t few low = div-eq_of_lt (lt_of_lt_of_le (shl_lt 53 (pred e) (lead_fits e t few)) (pow_mono {i = 53 + pred e} {j = 1074} (places e low)))
   where
     places : (e : ℕ) → e < 1023 → 53 + pred e ≤ 1074
     places zero l = omega arith
     places (suc j) l = omega arith
 
 -- from there on it is the shifted digits
-units-shifted : (e t : ℕ) → 1023 ≤ e → e ≤ 1053 → (2 ^ 52 + t) / 2 ^ (1075 - e) ≡ units e t / 2 ^ 1074
+units_shifted : (e t : ℕ) → 1023 ≤ e → e ≤ 1053 → (2 ^ 52 + t) / 2 ^ (1075 - e) ≡ units e t / 2 ^ 1074
 unfolding lead
-units-shifted zero t low high = absurd (omega arith)
-units-shifted (suc j) t low high =
+units_shifted zero t low high = absurd (omega arith)
+units_shifted (suc j) t low high =
     let q = 2 ^ 52 + t in
     ap (λ (k : ℕ). q / 2 ^ k) by
     ∙ ap (λ (k : ℕ). k / 2 ^ (1074 - j)) (sym (shl-shr q j))
@@ -119,19 +119,19 @@ exponent x = to_bits binary64 x / 2 ^ 52 % 2048
 abbrev digits : Float → ℕ
 digits x = to_bits binary64 x % 2 ^ 52
 
-digits-few : (x : Float) → digits x < 2 ^ 52
-digits-few x = mod-lt (to_bits binary64 x) (pow_pos 52)
+digits_few : (x : Float) → digits x < 2 ^ 52
+digits_few x = mod-lt (to_bits binary64 x) (pow_pos 52)
 
 value : (x : Float) → T (fits binary64 x) → T (finite x) → Equals x (units (exponent x) (digits x)) (2 ^ 1074)
 value x held number =
-    subst (λ (y : Float). Equals y (units (exponent x) (digits x)) (2 ^ 1074)) fields-are
-    (read negative (exponent x) (digits x) (subst (λ (y : Float). T (finite y)) (sym fields-are) number))
+    subst (λ (y : Float). Equals y (units (exponent x) (digits x)) (2 ^ 1074)) fields_are
+    (read negative (exponent x) (digits x) (subst (λ (y : Float). T (finite y)) (sym fields_are) number))
   where
     negative : Bool
     negative = leb (2 ^ 63) (to_bits binary64 x)
 
-    fields-are : of_fields binary64 negative (exponent x) (digits x) ≡ x
-    fields-are =
+    fields_are : of_fields binary64 negative (exponent x) (digits x) ≡ x
+    fields_are =
         ap (λ (k : ℕ). of_fields binary64 negative k (digits x)) (sym (field (to_bits binary64 x) 11 52))
         ∙ (unfold of_bits in of_bits-to_bits binary64 x held)
 
@@ -147,26 +147,26 @@ module _ (x : Float) (held : T (fits binary64 x)) (least : le nought x ≡ true)
   range : UpTo 30 x
   range = up_to 30 x (yes least) (yes most)
 
-  in-units : Equals x (units (exponent x) (digits x)) (2 ^ 1074)
-  in-units = value x held (up-to-finite 30 x range)
+  in_units : Equals x (units (exponent x) (digits x)) (2 ^ 1074)
+  in_units = value x held (up_to_finite 30 x range)
 
   pub no_nan : T (not (is_nan x))
-  no_nan = is_number x (up-to-finite 30 x range)
+  no_nan = is_number x (up_to_finite 30 x range)
 
-  pub exponent-fits : exponent x ≤ 1053
-  exponent-fits = exponent-within (exponent x) (digits x) (size-as 30 x _ _ range in-units)
+  pub exponent_fits : exponent x ≤ 1053
+  exponent_fits = exponent_within (exponent x) (digits x) (size_as 30 x _ _ range in_units)
 
   whole_is : num x / den x ≡ units (exponent x) (digits x) / 2 ^ 1074
-  whole_is = whole-as x _ _ (pow_pos 1074) in-units
+  whole_is = whole_as x _ _ (pow_pos 1074) in_units
 
-  pub less-than-one : exponent x < 1023 → 0 ≡ num x / den x
-  less-than-one low = sym (whole_is ∙ units_small (exponent x) (digits x) (digits-few x) low)
+  pub less_than_one : exponent x < 1023 → 0 ≡ num x / den x
+  less_than_one low = sym (whole_is ∙ units_small (exponent x) (digits x) (digits_few x) low)
 
   pub shifted : 1023 ≤ exponent x → (2 ^ 52 + digits x) / 2 ^ (1075 - exponent x) ≡ num x / den x
-  shifted high = units-shifted (exponent x) (digits x) high exponent-fits ∙ sym whole_is
+  shifted high = units_shifted (exponent x) (digits x) high exponent_fits ∙ sym whole_is
 
-  pub whole-fits : num x / den x ≤ 2 ^ 30
-  whole-fits = div-le_of_le-mul (den x) (le_trans (up-to-size 30 x range) (le_of_eq (mul_comm (2 ^ 30) (den x))))
+  pub whole_fits : num x / den x ≤ 2 ^ 30
+  whole_fits = div-le_of_le-mul (den x) (le_trans (up_to_size 30 x range) (le_of_eq (mul_comm (2 ^ 30) (den x))))
 
 -- ---- the product of a double in 0 to 1 with 2^30
 
@@ -176,13 +176,13 @@ sign (inf s) = s
 sign (fin s m e) = s
 
 -- of q × 2^j units, where q has no more digits than a double keeps
-exact-by :
+exact_by :
     (x : Float) (q j : ℕ) → q < 2 ^ 53 → q * 2 ^ j ≤ 2 ^ 1074 → Equals x (q * 2 ^ j) (2 ^ 1074) →
     HasValue (mul binary64 x scale) (sign x) (num x * 2 ^ 30) (den x)
 unfolding mul
-exact-by nan q j few most v = absurd v
-exact-by (inf s) q j few most v = absurd v
-exact-by (fin s m e) q j few most v =
+exact_by nan q j few most v = absurd v
+exact_by (inf s) q j few most v = absurd v
+exact_by (fin s m e) q j few most v =
     let product = round binary64 (unlike s false) (m * up e * 2 ^ 30) (down e * 1) in
     subst (λ (t : Bool). HasValue product t (m * up e * 2 ^ 30) (down e)) (own s)
     (subst (λ (d : ℕ). HasValue product (unlike s false) (m * up e * 2 ^ 30) d) (mul-one (down e))
@@ -208,22 +208,22 @@ exact-by (fin s m e) q j few most v =
 
 module _ (x : Float) (held : T (fits binary64 x)) (h : within x ≡ true) where
   -- "an exact product with 2^30": rounding it to a double changes nothing, at a subnormal neither, and a zero keeps its sign
-  pub product-exact : HasValue (mul binary64 x scale) (sign x) (num x * 2 ^ 30) (den x)
-  product-exact =
-      let range = within-up-to x h in
-      let in-units = value x held (up-to-finite 0 x range) in
-      exact-by x _ _ (lead-fits (exponent x) (digits x) (digits-few x)) (size-as 0 x _ _ range in-units) in-units
+  pub product_exact : HasValue (mul binary64 x scale) (sign x) (num x * 2 ^ 30) (den x)
+  product_exact =
+      let range = within_up_to x h in
+      let in_units = value x held (up_to_finite 0 x range) in
+      exact_by x _ _ (lead_fits (exponent x) (digits x) (digits_few x)) (size_as 0 x _ _ range in_units) in_units
 
   abbrev product : Float
   product = mul binary64 x scale
 
-  pub product-within : (le nought product ≡ true) × (le product scale ≡ true)
-  product-within =
-      let tests = up-to-back 30 product (up-to-value 30 product (sign x) (num x * 2 ^ 30) (den x) (den_pos x) product-exact few (none x (unit x h))) in
+  pub product_within : (le nought product ≡ true) × (le product scale ≡ true)
+  product_within =
+      let tests = up_to_back 30 product (up_to_value 30 product (sign x) (num x * 2 ^ 30) (den x) (den_pos x) product_exact few (none x (unit x h))) in
       (is_true _ tests.0, is_true _ tests.1)
     where
       few : num x * 2 ^ 30 ≤ 2 ^ 30 * den x
-      few = le_trans (mul-le-mul_right (2 ^ 30) (within-small x h)) (le_of_eq (mul_comm (den x) (2 ^ 30)))
+      few = le_trans (mul-le-mul_right (2 ^ 30) (within_small x h)) (le_of_eq (mul_comm (den x) (2 ^ 30)))
 
       none : (y : Float) → Unit y → sign y ≡ true → num y * 2 ^ 30 ≡ 0
       none nan u n = absurd u
@@ -231,6 +231,6 @@ module _ (x : Float) (held : T (fits binary64 x)) (h : within x ≡ true) where
       none (fin s m e) u n = ap (λ (k : ℕ). k * 2 ^ 30) (u.1 n) ∙ zero-mul (2 ^ 30)
 
   -- so parts are the product, rounded down
-  pub product-parts : num product / den product ≡ parts x
+  pub product_parts : num product / den product ≡ parts x
   unfolding parts S
-  product-parts = whole-as product (num x * 2 ^ 30) (den x) (den_pos x) (sized product (sign x) (num x * 2 ^ 30) (den x) product-exact)
+  product_parts = whole_as product (num x * 2 ^ 30) (den x) (den_pos x) (sized product (sign x) (num x * 2 ^ 30) (den x) product_exact)

@@ -41,8 +41,8 @@ module _ (a c : ℕ) (some : 0 < c) (small : a ≤ c) where
       few z h = omega arith
 
   -- what is kept is at most one more than the quotient
-  kept-most : kept 53 n c * (c * 2 ^ k) ≤ n + c * 2 ^ k
-  kept-most =
+  kept_most : kept 53 n c * (c * 2 ^ k) ≤ n + c * 2 ^ k
+  kept_most =
       let u = c * 2 ^ k in
       le_trans (mul-le-mul_right u (nearest-le (n / u) (compare (n % u * 2) u)))
       (le_trans (le_of_eq (suc-mul (n / u) u)) (add_right (n / u * u) n u (div-mul-le_self n u)))
@@ -50,11 +50,11 @@ module _ (a c : ℕ) (some : 0 < c) (small : a ≤ c) where
       add_right : (x y u : ℕ) → x ≤ y → x + u ≤ y + u
       add_right x y u h = omega arith
 
-  rounded-most : rounded * c ≤ n + 2 ^ 1022 * c
-  rounded-most =
+  rounded_most : rounded * c ≤ n + 2 ^ 1022 * c
+  rounded_most =
       le_trans
       (le_of_eq (mul_right_comm (kept 53 n c) (2 ^ k) c ∙ mul_assoc (kept 53 n c) c (2 ^ k)))
-      (le_trans kept-most (add_left n (c * 2 ^ k) (2 ^ 1022 * c) (le_trans (mul-le-mul_left c (pow_mono dropped)) (le_of_eq (mul_comm c (2 ^ 1022))))))
+      (le_trans kept_most (add_left n (c * 2 ^ k) (2 ^ 1022 * c) (le_trans (mul-le-mul_left c (pow_mono dropped)) (le_of_eq (mul_comm c (2 ^ 1022))))))
     where
       add_left : (y u v : ℕ) → u ≤ v → y + u ≤ y + v
       add_left y u v h = omega arith
@@ -64,29 +64,29 @@ module _ (a c : ℕ) (some : 0 < c) (small : a ≤ c) where
   fits =
       lt_of_le_of_lt
       (le_of_mul-le-mul_right
-      (le_trans rounded-most (sum-most n (2 ^ 1022) (2 ^ 1074) (mul-le-mul_right (2 ^ 1074) small)))
+      (le_trans rounded_most (sum_most n (2 ^ 1022) (2 ^ 1074) (mul-le-mul_right (2 ^ 1074) small)))
       some)
       (lit< tt)
     where
-      sum-most : (n e d : ℕ) → n ≤ c * d → n + e * c ≤ (d + e) * c
-      sum-most n e d h = omega (arith, add-mul d e c, mul_comm c d)
+      sum_most : (n e d : ℕ) → n ≤ c * d → n + e * c ≤ (d + e) * c
+      sum_most n e d h = omega (arith, add-mul d e c, mul_comm c d)
 
-  pub rounded-above :
+  pub rounded_above :
       (s : Bool) → (w : ℕ) × Equals (round binary64 s a c) w (2 ^ 1074) × (w * c ≤ a * 2 ^ 1074 + 2 ^ 1022 * c)
-  rounded-above s = (
+  rounded_above s = (
     rounded,
     sized (round binary64 s a c) s rounded (2 ^ 1074)
         (subst (λ (x : Float). HasValue x s rounded (2 ^ 1074)) (sym (round_is binary64 s a c)) (units_val binary64 s (kept 53 n c) k fits)),
-    rounded-most,
+    rounded_most,
   )
 
 -- ---- 1 less a double in 0 to 1, and the product of two, by their sizes
 
-pub rest-above :
+pub rest_above :
     (x : Float) → within x ≡ true →
     (w : ℕ) × Equals (sub binary64 one x) w (2 ^ 1074) × (w * den x ≤ (den x - num x) * 2 ^ 1074 + 2 ^ 1022 * den x)
 unfolding sub add neg sum
-rest-above x h = go x (unit x h)
+rest_above x h = go x (unit x h)
   where
     -- the fraction as the sum has it
     tidy : (w d a n D E : ℕ) → a ≡ d - n → w * (1 * d) ≤ a * D + E * (1 * d) → w * d ≤ (d - n) * D + E * d
@@ -98,18 +98,18 @@ rest-above x h = go x (unit x h)
     go nan u = absurd u
     go (inf s) u = absurd u
     go (fin true m e) u =
-        let r = rounded-above (1 * down e + m * up e * 1) (1 * down e) (omega (arith, down_pos e)) (omega (arith, u.1 refl)) false in
+        let r = rounded_above (1 * down e + m * up e * 1) (1 * down e) (omega (arith, down_pos e)) (omega (arith, u.1 refl)) false in
         (r.0, r.1, tidy r.0 (down e) (1 * down e + m * up e * 1) (m * up e) (2 ^ 1074) (2 ^ 1022) (omega (arith, u.1 refl)) r.2)
     go (fin false m e) u =
-        let r = rounded-above (1 * down e - m * up e * 1) (1 * down e) (omega (arith, down_pos e)) (omega arith) false in
+        let r = rounded_above (1 * down e - m * up e * 1) (1 * down e) (omega (arith, down_pos e)) (omega arith) false in
         rw (le-ltb (1 * down e) (m * up e * 1) (omega (arith, u.0)))
         (r.0, r.1, tidy r.0 (down e) (1 * down e - m * up e * 1) (m * up e) (2 ^ 1074) (2 ^ 1022) (omega arith) r.2)
 
-pub product-above :
+pub product_above :
     (x y : Float) → within x ≡ true → within y ≡ true → (v : ℕ) → Equals x v (2 ^ 1074) →
     (w : ℕ) × Equals (mul binary64 x y) w (2 ^ 1074) × (w * den y ≤ v * num y + 2 ^ 1022 * den y)
 unfolding mul
-product-above x y h k = go x y (unit x h) (unit y k)
+product_above x y h k = go x y (unit x h) (unit y k)
   where
     -- x's own fraction leaves
     cancel :
@@ -129,5 +129,5 @@ product-above x y h k = go x y (unit x h) (unit y k)
     go (fin s m a) nan u t v e = absurd t
     go (fin s m a) (inf r) u t v e = absurd t
     go (fin s m a) (fin r n b) u t v e =
-        let z = rounded-above (m * up a * (n * up b)) (down a * down b) (mul-pos (down_pos a) (down_pos b)) (mul-le-mul u.0 t.0) (unlike s r) in
+        let z = rounded_above (m * up a * (n * up b)) (down a * down b) (mul-pos (down_pos a) (down_pos b)) (mul-le-mul u.0 t.0) (unlike s r) in
         (z.0, z.1, cancel z.0 v (m * up a) (down a) (n * up b) (down b) (2 ^ 1074) (2 ^ 1022) (down_pos a) e z.2)

@@ -13,215 +13,215 @@ use Rattle.model.specs.declared.Ask.{Ask}
 use Rattle.model.specs.declared.Question.{Question}
 use Rattle.model.specs.declared.Question.TheVariants.{Survive}
 use Rattle.model.specs.declared.Rounding.{Rounding}
-use Rattle.model.specs.Plan.{nth, plan-of, row-length}
-use Rattle.model.specs.Levels.{largest-level, row-levels}
-use Rattle.model.specs.MonthRule.{month, values, all_placed, last_of, opening-allowed, ruin-row, carried-back}
-use Rattle.model.specs.Bounds.{bound, ruin-bound}
-use Rattle.model.specs.Refusal.{outside, rows-needed, workspace-needed}
-use Rattle.model.proofs.LevelLaws.{level-later}
-use Rattle.model.proofs.Facts.{Facts, horizon-is}
+use Rattle.model.specs.Plan.{nth, plan_of, row_length}
+use Rattle.model.specs.Levels.{largest_level, row_levels}
+use Rattle.model.specs.MonthRule.{month, values, all_placed, last_of, opening_allowed, ruin_row, carried_back}
+use Rattle.model.specs.Bounds.{bound, ruin_bound}
+use Rattle.model.specs.Refusal.{outside, rows_needed, workspace_needed}
+use Rattle.model.proofs.LevelLaws.{level_later}
+use Rattle.model.proofs.Facts.{Facts, horizon_is}
 use Rattle.model.proofs.Rooms.{rows_few}
 use Rattle.model.proofs.MemoryLaws.{filled, untouched}
-use Rattle.model.proofs.Opening.{value-allowed, value-forbidden}
+use Rattle.model.proofs.Opening.{value_allowed, value_forbidden}
 use Rattle.engine.specs.declared.Answer.{Answer}
 use Rattle.engine.specs.declared.bounds.LastRows.{LastRows}
 use Rattle.engine.specs.declared.bounds.LastRows.TheVariants.{Placed, Ruin}
 use Rattle.month_rows.specs.declared.rows.Shape.{Shape}
-use Rattle.month_rule.specs.Months.{PlanTerms, rule-by}
+use Rattle.month_rule.specs.Months.{PlanTerms, rule_by}
 use Rattle.month_rows.specs.Rows.{Replaced}
-use Rattle.month_rows.specs.Shapes.{rows-size, values-in}
-use Rattle.month_rows.proofs.RowLaws.{chances-parts}
+use Rattle.month_rows.specs.Shapes.{rows_size, values_in}
+use Rattle.month_rows.proofs.RowLaws.{chances_parts}
 use Rattle.ruin_rows.specs.Terms.{RuinTerms}
 use Rattle.questions.specs.Needs.{shape_of}
-use Rattle.engine.specs.LastRows.{last-rows, past-last, LastIn, LastFits, opening-value}
-use Rattle.engine.specs.Answers.{refused, bounds-answer}
-use Rattle.model.specs.Memory.{zero-first, cleared-after}
-use Rattle.questions.proofs.ShapeLaws.{shape-rows, shape-width, last-agree, shape-value}
+use Rattle.engine.specs.LastRows.{last_rows, past_last, LastIn, LastFits, opening_value}
+use Rattle.engine.specs.Answers.{refused, bounds_answer}
+use Rattle.model.specs.Memory.{zero_first, cleared_after}
+use Rattle.questions.proofs.ShapeLaws.{shape_rows, shape_width, last_agree, shape_value}
 
 -- The clauses of a call that answers two bounds: of a refusal, of which nothing else is promised (E) …
-pub refused-out :
+pub refused_out :
     {E : Type 0} (r : Answer) (n number needed low high : ℕ) (ws : List ℕ) → r ≡ refused n → n ≡ number → (n ≡ 0 → ⊥) →
-    (r ≡ bounds-answer number low high) × ((ws ≡ cleared-after number needed ws) × (r.refusal ≡ 0 → E))
-unfolding refused bounds-answer
-refused-out r n number needed low high ws er e ne = (
+    (r ≡ bounds_answer number low high) × ((ws ≡ cleared_after number needed ws) × (r.refusal ≡ 0 → E))
+unfolding refused bounds_answer
+refused_out r n number needed low high ws er e ne = (
   rw (er, ← e, ne_eqb n 0 ne),
   (untouched n number needed ws e ne, λ z. absurd (ne (sym (ap (λ (a : Answer). a.refusal) er) ∙ z))),
 )
 
 -- … and of an answer that was not refused: what holds of the definition's bounds (E) holds of its numbers.
-pub answered-out :
+pub answered_out :
     (E : ℕ → ℕ → Type 0) (r : Answer) (number m needed : ℕ) (ws ws' : List ℕ) {low high low' high' : ℕ} → number ≡ 0 →
-    r ≡ bounds-answer 0 low high → low ≡ low' → high ≡ high' → ws' ≡ zero-first m ws → m ≡ needed → E low' high' →
-    (r ≡ bounds-answer number low' high') × ((ws' ≡ cleared-after number needed ws) × (r.refusal ≡ 0 → E r.lower r.upper))
-unfolding bounds-answer
-answered-out E r number m needed ws ws' e worked el eh cleared em holds = (
+    r ≡ bounds_answer 0 low high → low ≡ low' → high ≡ high' → ws' ≡ zero_first m ws → m ≡ needed → E low' high' →
+    (r ≡ bounds_answer number low' high') × ((ws' ≡ cleared_after number needed ws) × (r.refusal ≡ 0 → E r.lower r.upper))
+unfolding bounds_answer
+answered_out E r number m needed ws ws' e worked el eh cleared em holds = (
   rw (e, ← el, ← eh) worked,
   (
-    cleared ∙ ap (λ (k : ℕ). zero-first k ws) em ∙ sym (filled number needed (replicate needed 0) ws e),
+    cleared ∙ ap (λ (k : ℕ). zero_first k ws) em ∙ sym (filled number needed (replicate needed 0) ws e),
     λ _. rw (ap (λ (a : Answer). a.lower) worked ∙ el, ap (λ (a : Answer). a.upper) worked ∙ eh) holds,
   ),
 )
 
 -- an answer gives its refusal's number, and its bounds where that is 0
-pub number_is : (number low high : ℕ) → (bounds-answer number low high).refusal ≡ number
-unfolding bounds-answer refused
+pub number_is : (number low high : ℕ) → (bounds_answer number low high).refusal ≡ number
+unfolding bounds_answer refused
 number_is zero low high = refl
 number_is (suc n) low high = rw (ne_eqb (suc n) 0 (λ z. omega (arith, z)))
 
-pub bounds-are : (number low high : ℕ) → (bounds-answer number low high).refusal ≡ 0 → ((bounds-answer number low high).lower ≡ low) × ((bounds-answer number low high).upper ≡ high)
-unfolding bounds-answer
-bounds-are number low high e = rw (sym (number_is number low high) ∙ e) (refl, refl)
+pub bounds_are : (number low high : ℕ) → (bounds_answer number low high).refusal ≡ 0 → ((bounds_answer number low high).lower ≡ low) × ((bounds_answer number low high).upper ≡ high)
+unfolding bounds_answer
+bounds_are number low high e = rw (sym (number_is number low high) ∙ e) (refl, refl)
 
 -- the answer that the bounds give
-pub answer-worked : (low high low' high' : ℕ) → low ≡ low' → high ≡ high' → ◌≡◌ {A = Answer} (record { refusal = 0; lower = low; upper = high }) (bounds-answer 0 low' high')
-unfolding bounds-answer
-answer-worked low high low' high' el eh = rw (el, eh)
+pub answer_worked : (low high low' high' : ℕ) → low ≡ low' → high ≡ high' → ◌≡◌ {A = Answer} (record { refusal = 0; lower = low; upper = high }) (bounds_answer 0 low' high')
+unfolding bounds_answer
+answer_worked low high low' high' el eh = rw (el, eh)
 
 -- the two halves are what is needed
-pub needed-halves : (a : Ask) (width : ℕ) → width ≡ row-levels a.head.income a.head.opening a.head.months → 2 * rows-size (shape_of a.question width a.head.income) ≡ workspace-needed a
-unfolding workspace-needed
-needed-halves a width e =
-    rw (shape-rows a.question width a.head.income, shape-width a.question width a.head.income, ← e)
-    (ap (λ n. 2 * n) (mul_comm (rows-needed a.question) width) ∙ sym (mul_assoc 2 width (rows-needed a.question)))
+pub needed_halves : (a : Ask) (width : ℕ) → width ≡ row_levels a.head.income a.head.opening a.head.months → 2 * rows_size (shape_of a.question width a.head.income) ≡ workspace_needed a
+unfolding workspace_needed
+needed_halves a width e =
+    rw (shape_rows a.question width a.head.income, shape_width a.question width a.head.income, ← e)
+    (ap (λ n. 2 * n) (mul_comm (rows_needed a.question) width) ∙ sym (mul_assoc 2 width (rows_needed a.question)))
 
 -- what the bounds ask of the plan's row, as it is lent: the first months, the weights, and over
-pub chances-lent : (h : Head) (row : List ℕ) (months : ℕ) → months ≤ h.months → take months row ≡ take months (plan-of h row).chances
-unfolding plan-of
-chances-lent h row months l = sym (take-take months h.months row l)
+pub chances_lent : (h : Head) (row : List ℕ) (months : ℕ) → months ≤ h.months → take months row ≡ take months (plan_of h row).chances
+unfolding plan_of
+chances_lent h row months l = sym (take-take months h.months row l)
 
-pub severity-lent : (h : Head) (row : List ℕ) → take (h.months + h.sizes - h.months) (drop h.months row) ≡ (plan-of h row).severity
-unfolding plan-of
-severity-lent h row = let sizes : h.months + h.sizes - h.months ≡ h.sizes = omega arith in rw sizes
+pub severity_lent : (h : Head) (row : List ℕ) → take (h.months + h.sizes - h.months) (drop h.months row) ≡ (plan_of h row).severity
+unfolding plan_of
+severity_lent h row = let sizes : h.months + h.sizes - h.months ≡ h.sizes = omega arith in rw sizes
 
-tail-lent : (h : Head) (row : List ℕ) → get_or row (h.months + h.sizes) 0 ≡ (plan-of h row).tail
-unfolding plan-of
-tail-lent h row = refl
+tail_lent : (h : Head) (row : List ℕ) → get_or row (h.months + h.sizes) 0 ≡ (plan_of h row).tail
+unfolding plan_of
+tail_lent h row = refl
 
-pub terms-lent :
+pub terms_lent :
     (h : Head) (row : List ℕ) → Facts h row → (months : ℕ) → PlanTerms (take (h.months + h.sizes - h.months) (drop h.months row)) (take months row)
-terms-lent h row f months =
+terms_lent h row f months =
     record {
-      weights-fit = rw (severity-lent h row) (omega (arith, f.weights-add));
-      sizes-fit = simp length-take (omega (arith, f.head.sizes-fit));
-      chances-fit = chances-parts h row f months;
+      weights_fit = rw (severity_lent h row) (omega (arith, f.weights_add));
+      sizes_fit = simp length-take (omega (arith, f.head.sizes_fit));
+      chances_fit = chances_parts h row f months;
     }
 
 -- the levels that the months reach lie within the rows
-pub levels-fit :
-    (h : Head) (row : List ℕ) → length row ≡ row-length h → (months width : ℕ) → months ≤ h.months → width ≡ row-levels h.income h.opening h.months →
-    largest-level h.income h.opening (length (take months row)) < width
-levels-fit h row row_is months width l e =
+pub levels_fit :
+    (h : Head) (row : List ℕ) → length row ≡ row_length h → (months width : ℕ) → months ≤ h.months → width ≡ row_levels h.income h.opening h.months →
+    largest_level h.income h.opening (length (take months row)) < width
+levels_fit h row row_is months width l e =
     let count : length (take months row) ≡ months = length-take-le months row (omega arith) in
-    rw count (omega (arith, level-later h.income h.opening months h.months l))
+    rw count (omega (arith, level_later h.income h.opening months h.months l))
 
 -- there is a row
-pub some-row : (last : LastRows) (shape : Shape) (F : List ℕ) (tail : ℕ) → LastFits last shape F tail → 0 < shape.rows
+pub some_row : (last : LastRows) (shape : Shape) (F : List ℕ) (tail : ℕ) → LastFits last shape F tail → 0 < shape.rows
 unfolding LastFits
-some-row Placed shape F tail h = h
-some-row (Ruin P) shape F tail h = omega (arith, h.0)
+some_row Placed shape F tail h = h
+some_row (Ruin P) shape F tail h = omega (arith, h.0)
 
 -- what the last rows ask, and the value that they give, of the parts as they are lent
-pub last-lent :
-    (last : LastRows) (shape : Shape) (h : Head) (row : List ℕ) → LastFits last shape (plan-of h row).severity (plan-of h row).tail →
+pub last_lent :
+    (last : LastRows) (shape : Shape) (h : Head) (row : List ℕ) → LastFits last shape (plan_of h row).severity (plan_of h row).tail →
     LastFits last shape (take (h.months + h.sizes - h.months) (drop h.months row)) (get_or row (h.months + h.sizes) 0)
-last-lent last shape h row fits = rw (severity-lent h row, tail-lent h row) fits
+last_lent last shape h row fits = rw (severity_lent h row, tail_lent h row) fits
 
 pub value_lent :
     (round : Rounding) (h : Head) (row : List ℕ) (months : ℕ) (shape : Shape) → shape.income ≡ h.income → (last : LastRows) (r : ℕ) → months ≤ h.months →
     r
-    ≡ values (month round shape.income (take (h.months + h.sizes - h.months) (drop h.months row))) (rule-by shape)
-    (last-rows last round shape.income (take (h.months + h.sizes - h.months) (drop h.months row)) (get_or row (h.months + h.sizes) 0)) (take months row)
+    ≡ values (month round shape.income (take (h.months + h.sizes - h.months) (drop h.months row))) (rule_by shape)
+    (last_rows last round shape.income (take (h.months + h.sizes - h.months) (drop h.months row)) (get_or row (h.months + h.sizes) 0)) (take months row)
     (shape.rows - 1) h.opening →
-    r ≡ opening-value round (plan-of h row) months shape last
-unfolding plan-of rule-by
+    r ≡ opening_value round (plan_of h row) months shape last
+unfolding plan_of rule_by
 value_lent round h row months shape earns last r l e =
-    rw (earns, severity-lent h row, chances-lent h row months l) at e
+    rw (earns, severity_lent h row, chances_lent h row months l) at e
 
 -- what the row before a month that ruins needs, of an accepted plan and the shape of survive
-pub ruin-fits :
+pub ruin_fits :
     (h : Head) (row : List ℕ) → Facts h row → (i : ℕ) (shape : Shape) (width income : ℕ) → shape ≡ shape_of Survive width income →
-    LastFits (Ruin (get_or row i 0)) shape (plan-of h row).severity (plan-of h row).tail
+    LastFits (Ruin (get_or row i 0)) shape (plan_of h row).severity (plan_of h row).tail
 unfolding LastFits shape_of
-ruin-fits h row f i shape width income e =
-    (ap (λ (s : Shape). s.rows) e, record { weights-fit = omega (arith, f.weights-add); chance-fits = f.numbers_fit i })
+ruin_fits h row f i shape width income e =
+    (ap (λ (s : Shape). s.rows) e, record { weights_fit = omega (arith, f.weights_add); chance_fits = f.numbers_fit i })
 
 -- the last rows in memory: where all claims are placed …
-pub placed-in :
+pub placed_in :
     (last : LastRows) → last ≡ Placed → (round : Rounding) (F : List ℕ) (tail : ℕ) (shape : Shape) (top : ℕ) (xs : List ℕ) → top < shape.width →
-    ((level : ℕ) → level < shape.width → (k : ℕ) → k < shape.rows → (s : ℕ) → values-in shape level xs k s ≡ all_placed k s) →
+    ((level : ℕ) → level < shape.width → (k : ℕ) → k < shape.rows → (s : ℕ) → values_in shape level xs k s ≡ all_placed k s) →
     LastIn last round F tail shape top xs
-unfolding last-rows past-last
-placed-in last e round F tail shape top xs l h =
+unfolding last_rows past_last
+placed_in last e round F tail shape top xs l h =
     record { each = λ k m s n. rw e (h top l k m s); past = λ k m i a b. rw e (rw sub-zero at (h i b k m 0)) }
 
 -- … and before a ruin
-pub ruin-terms : (last : LastRows) (P : ℕ) → last ≡ Ruin P → (shape : Shape) (F : List ℕ) (tail : ℕ) → LastFits last shape F tail → (shape.rows ≡ 1) × RuinTerms F tail P
+pub ruin_terms : (last : LastRows) (P : ℕ) → last ≡ Ruin P → (shape : Shape) (F : List ℕ) (tail : ℕ) → LastFits last shape F tail → (shape.rows ≡ 1) × RuinTerms F tail P
 unfolding LastFits
-ruin-terms last P e shape F tail h = rw e at h
+ruin_terms last P e shape F tail h = rw e at h
 
-pub one-row : (shape : Shape) → shape.rows ≡ 1 → rows-size shape ≡ shape.width
-one-row shape one = rw one (one-mul shape.width)
+pub one_row : (shape : Shape) → shape.rows ≡ 1 → rows_size shape ≡ shape.width
+one_row shape one = rw one (one-mul shape.width)
 
-pub ruin-in :
+pub ruin_in :
     (last : LastRows) (P : ℕ) → last ≡ Ruin P → (round : Rounding) (F : List ℕ) (tail : ℕ) (shape : Shape) (top : ℕ) (xs xs' : List ℕ) → shape.rows ≡ 1 →
-    xs' ≡ xs → Replaced 0 (top + 1) (λ i. ruin-row round shape.income F tail P (top - i)) (replicate shape.width 0) xs → LastIn last round F tail shape top xs'
-unfolding last-rows past-last
-ruin-in last P e round F tail shape top xs xs' one same h = record { each = each; past = past }
+    xs' ≡ xs → Replaced 0 (top + 1) (λ i. ruin_row round shape.income F tail P (top - i)) (replicate shape.width 0) xs → LastIn last round F tail shape top xs'
+unfolding last_rows past_last
+ruin_in last P e round F tail shape top xs xs' one same h = record { each = each; past = past }
   where
     first : (k : ℕ) → k < shape.rows → (shape.rows - 1 - k) * shape.width ≡ 0
     first k l = let none : shape.rows - 1 - k ≡ 0 = omega arith in rw none (zero-mul shape.width)
 
-    each : (k : ℕ) → k < shape.rows → (s : ℕ) → s ≤ top → values-in shape top xs' k s ≡ last-rows last round shape.income F tail k s
+    each : (k : ℕ) → k < shape.rows → (s : ℕ) → s ≤ top → values_in shape top xs' k s ≡ last_rows last round shape.income F tail k s
     each k l s m =
         let level : top - (top - s) ≡ s = omega arith in
         rw (e, same, first k l) (rw (zero-add, level) at (h.inside (top - s) (omega arith)))
 
-    past : (k : ℕ) → k < shape.rows → (i : ℕ) → top < i → i < shape.width → get_or (drop ((shape.rows - 1 - k) * shape.width) xs') i 0 ≡ past-last last k
+    past : (k : ℕ) → k < shape.rows → (i : ℕ) → top < i → i < shape.width → get_or (drop ((shape.rows - 1 - k) * shape.width) xs') i 0 ≡ past_last last k
     past k l i a b = rw (e, same, first k l) (h.later i (omega arith) ∙ get_or-replicate shape.width i 0 0 b)
 
 -- The value at the opening is the question's bound, where the question allows the opening and all months are worked …
-pub bound-is :
-    (round : Rounding) (h : Head) (row : List ℕ) → length row ≡ row-length h → (q : Question) → outside q ≡ false → opening-allowed q h.opening ≡ true →
-    (width : ℕ) → width ≡ row-levels h.income h.opening h.months →
-    opening-value round (plan-of h row) h.months (shape_of q width h.income) Placed ≡ bound round (plan-of h row) q
-unfolding bound last-rows plan-of
-bound-is round h row row_is q inside allowed width ew =
-    let some-row : 0 < (shape_of q width h.income).rows = omega (arith, shape-rows q width h.income, rows_few q inside) in
-    let months = horizon-is h row row_is in
-    rw (take_all h.months (plan-of h row).chances (omega (arith, months)))
-    (shape-value round h.income (plan-of h row).severity (plan-of h row).chances q (plan-of h row).opening (largest-level h.income h.opening h.months) width ew
-    (rw months (le_refl (largest-level h.income h.opening h.months))) some-row all_placed (last_of q) (λ k l s. last-agree q width h.income k l s))
-    ∙ sym (value-allowed (month round h.income (plan-of h row).severity) (plan-of h row) q allowed)
+pub bound_is :
+    (round : Rounding) (h : Head) (row : List ℕ) → length row ≡ row_length h → (q : Question) → outside q ≡ false → opening_allowed q h.opening ≡ true →
+    (width : ℕ) → width ≡ row_levels h.income h.opening h.months →
+    opening_value round (plan_of h row) h.months (shape_of q width h.income) Placed ≡ bound round (plan_of h row) q
+unfolding bound last_rows plan_of
+bound_is round h row row_is q inside allowed width ew =
+    let some_row : 0 < (shape_of q width h.income).rows = omega (arith, shape_rows q width h.income, rows_few q inside) in
+    let months = horizon_is h row row_is in
+    rw (take_all h.months (plan_of h row).chances (omega (arith, months)))
+    (shape_value round h.income (plan_of h row).severity (plan_of h row).chances q (plan_of h row).opening (largest_level h.income h.opening h.months) width ew
+    (rw months (le_refl (largest_level h.income h.opening h.months))) some_row all_placed (last_of q) (λ k l s. last_agree q width h.income k l s))
+    ∙ sym (value_allowed (month round h.income (plan_of h row).severity) (plan_of h row) q allowed)
 
 -- … which is 0 where the question forbids the opening, …
-pub bound-none :
-    (round : Rounding) (h : Head) (row : List ℕ) (q : Question) → opening-allowed q h.opening ≡ false → 0 ≡ bound round (plan-of h row) q
-unfolding bound plan-of
-bound-none round h row q forbidden = sym (value-forbidden (month round h.income (plan-of h row).severity) (plan-of h row) q forbidden)
+pub bound_none :
+    (round : Rounding) (h : Head) (row : List ℕ) (q : Question) → opening_allowed q h.opening ≡ false → 0 ≡ bound round (plan_of h row) q
+unfolding bound plan_of
+bound_none round h row q forbidden = sym (value_forbidden (month round h.income (plan_of h row).severity) (plan_of h row) q forbidden)
 
 -- the chance of a month, as it lies in the row
-pub chance-is : (h : Head) (row : List ℕ) (t : ℕ) → 0 < t → t ≤ h.months → get_or row (t - 1) 0 ≡ nth (plan-of h row).chances t
-unfolding nth plan-of
-chance-is h row zero some l = absurd (omega arith)
-chance-is h row (suc i) some l =
+pub chance_is : (h : Head) (row : List ℕ) (t : ℕ) → 0 < t → t ≤ h.months → get_or row (t - 1) 0 ≡ nth (plan_of h row).chances t
+unfolding nth plan_of
+chance_is h row zero some l = absurd (omega arith)
+chance_is h row (suc i) some l =
     let index : suc i - 1 ≡ i = omega arith in
     rw index (sym (get_or-take h.months row i 0 l))
 
 -- … and that of ruin in a month, where the months before it are.
-pub ruin-bound-is :
-    (round : Rounding) (h : Head) (row : List ℕ) → length row ≡ row-length h → (t : ℕ) → 0 < t → t ≤ h.months →
-    (width : ℕ) → width ≡ row-levels h.income h.opening h.months → (P : ℕ) → P ≡ get_or row (t - 1) 0 →
-    opening-value round (plan-of h row) (t - 1) (shape_of Survive width h.income) (Ruin P) ≡ ruin-bound round (plan-of h row) t
-unfolding ruin-bound carried-back last-rows plan-of rows-needed
-ruin-bound-is round h row row_is t some l width ew P eP =
-    let months = horizon-is h row row_is in
-    let early : length (take (t - 1) (plan-of h row).chances) ≡ t - 1 = length-take-le (t - 1) (plan-of h row).chances (omega arith) in
-    rw (eP ∙ chance-is h row t some l)
-    (shape-value round h.income (plan-of h row).severity (take (t - 1) (plan-of h row).chances) Survive (plan-of h row).opening (largest-level h.income h.opening h.months)
-    width ew (earlier (length (take (t - 1) (plan-of h row).chances)) (omega arith)) (rw (shape-rows Survive width h.income) one-row) _ _ (λ k m s. refl))
+pub ruin_bound_is :
+    (round : Rounding) (h : Head) (row : List ℕ) → length row ≡ row_length h → (t : ℕ) → 0 < t → t ≤ h.months →
+    (width : ℕ) → width ≡ row_levels h.income h.opening h.months → (P : ℕ) → P ≡ get_or row (t - 1) 0 →
+    opening_value round (plan_of h row) (t - 1) (shape_of Survive width h.income) (Ruin P) ≡ ruin_bound round (plan_of h row) t
+unfolding ruin_bound carried_back last_rows plan_of rows_needed
+ruin_bound_is round h row row_is t some l width ew P eP =
+    let months = horizon_is h row row_is in
+    let early : length (take (t - 1) (plan_of h row).chances) ≡ t - 1 = length-take-le (t - 1) (plan_of h row).chances (omega arith) in
+    rw (eP ∙ chance_is h row t some l)
+    (shape_value round h.income (plan_of h row).severity (take (t - 1) (plan_of h row).chances) Survive (plan_of h row).opening (largest_level h.income h.opening h.months)
+    width ew (earlier (length (take (t - 1) (plan_of h row).chances)) (omega arith)) (rw (shape_rows Survive width h.income) one_row) _ _ (λ k m s. refl))
   where
-    earlier : (n : ℕ) → n ≤ h.months → largest-level h.income (plan-of h row).opening n ≤ largest-level h.income h.opening h.months
-    earlier n m = level-later h.income h.opening n h.months m
+    earlier : (n : ℕ) → n ≤ h.months → largest_level h.income (plan_of h row).opening n ≤ largest_level h.income h.opening h.months
+    earlier n m = level_later h.income h.opening n h.months m
 
-    one-row : 0 < rows-needed Survive
-    one-row = omega arith
+    one_row : 0 < rows_needed Survive
+    one_row = omega arith

@@ -1,12 +1,12 @@
 // The answer of a call that has two bounds: refused, or worked out from the last rows.
 ghost use Rattle.std.specs.Prelude.{◌≡◌, ◌++◌, ◌*◌, ◌≤◌, length, drop, replicate};
 ghost use Rattle.model.specs.declared.Rounding.TheVariants.{Down, Up};
-ghost use Rattle.model.specs.Plan.{plan-of};
+ghost use Rattle.model.specs.Plan.{plan_of};
 ghost use Rattle.model.specs.Refusal.{Accepted};
-ghost use Rattle.month_rows.specs.Shapes.{rows-size};
-ghost use Rattle.engine.specs.Answers.{bounds-answer};
+ghost use Rattle.month_rows.specs.Shapes.{rows_size};
+ghost use Rattle.engine.specs.Answers.{bounds_answer};
 ghost use Rattle.engine.specs.Answers.{refused as Answers·refused};
-ghost use Rattle.engine.specs.LastRows.{LastFits, Workable, opening-value};
+ghost use Rattle.engine.specs.LastRows.{LastFits, Workable, opening_value};
 
 use crate::Answer;
 use crate::bounds::{LastRows, bounds_from};
@@ -27,7 +27,7 @@ pub fn refused(refusal: u32) -> Answer
 // any other answer.
 pub fn none_allowed(needed: usize, workspace: &mut [u32]) -> Answer
     requires { needed ≤ length workspace.old }
-    ensures answered { result ≡ bounds-answer 0 0 0 }
+    ensures answered { result ≡ bounds_answer 0 0 0 }
     ensures cleared { workspace.new ≡ replicate needed 0 ++ drop needed workspace.old }
 {
     fill(&mut workspace[..needed], 0);
@@ -50,9 +50,9 @@ pub fn work_out(
 ) -> Answer
     requires accepted { Accepted head row.now }
     requires workable { Workable head months shape (length workspace.old) }
-    requires last_fits { LastFits last shape (plan-of head row.now).severity (plan-of head row.now).tail }
-    ensures answered { result ≡ bounds-answer 0 (opening-value Down (plan-of head row.now) months shape last) (opening-value Up (plan-of head row.now) months shape last) }
-    ensures cleared { workspace.new ≡ replicate (2 * rows-size shape) 0 ++ drop (2 * rows-size shape) workspace.old }
+    requires last_fits { LastFits last shape (plan_of head row.now).severity (plan_of head row.now).tail }
+    ensures answered { result ≡ bounds_answer 0 (opening_value Down (plan_of head row.now) months shape last) (opening_value Up (plan_of head row.now) months shape last) }
+    ensures cleared { workspace.new ≡ replicate (2 * rows_size shape) 0 ++ drop (2 * rows_size shape) workspace.old }
 {
     let first = head.months;
     let end = first + head.sizes;

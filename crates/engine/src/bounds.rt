@@ -1,13 +1,13 @@
 // The two bounds of a call, worked in the workspace that it needs.
 ghost use Rattle.std.specs.Prelude.{◌≡◌, ◌+◌, ◌*◌, ◌-◌, ◌^◌, ◌<◌, ◌≤◌, length, take, drop, replicate};
 ghost use Rattle.model.specs.declared.Rounding.TheVariants.{Down, Up};
-ghost use Rattle.model.specs.Limits.{max-income};
-ghost use Rattle.model.specs.Levels.{largest-level};
+ghost use Rattle.model.specs.Limits.{max_income};
+ghost use Rattle.model.specs.Levels.{largest_level};
 ghost use Rattle.model.specs.MonthRule.{month, values};
 ghost use Rattle.claims.specs.Values.{Parts};
-ghost use Rattle.month_rule.specs.Months.{PlanTerms, rule-by};
-ghost use Rattle.month_rows.specs.Shapes.{rows-size};
-ghost use Rattle.engine.specs.LastRows.{last-rows, LastIn, LastFits};
+ghost use Rattle.month_rule.specs.Months.{PlanTerms, rule_by};
+ghost use Rattle.month_rows.specs.Shapes.{rows_size};
+ghost use Rattle.engine.specs.LastRows.{last_rows, LastIn, LastFits};
 
 use model::Bounds;
 use month_rows::rows::Shape;
@@ -30,10 +30,10 @@ fn put_last(
     tail: u32,
     last: LastRows,
 )
-    requires halves_len { (length halves.old ≡ 2 * rows-size shape) × (top < shape.width) × (top + shape.income < 2 ^ 64) }
+    requires halves_len { (length halves.old ≡ 2 * rows_size shape) × (top < shape.width) × (top + shape.income < 2 ^ 64) }
     requires last_fits { LastFits last shape severity.now tail }
-    ensures lower { LastIn last Down severity.now tail shape top (take (rows-size shape) halves.new) }
-    ensures upper { LastIn last Up severity.now tail shape top (drop (rows-size shape) halves.new) }
+    ensures lower { LastIn last Down severity.now tail shape top (take (rows_size shape) halves.new) }
+    ensures upper { LastIn last Up severity.now tail shape top (drop (rows_size shape) halves.new) }
     ensures parts { Parts halves.new }
 {
     match last {
@@ -60,12 +60,12 @@ pub fn bounds_from(
     tail: u32,
     last: LastRows,
 ) -> Bounds
-    requires workspace_len { (length workspace.old ≡ 2 * rows-size shape) × (largest-level shape.income opening (length chances.now) < shape.width) }
-    requires income_nonzero { (0 < shape.income) × (shape.income ≤ max-income) }
+    requires workspace_len { (length workspace.old ≡ 2 * rows_size shape) × (largest_level shape.income opening (length chances.now) < shape.width) }
+    requires income_nonzero { (0 < shape.income) × (shape.income ≤ max_income) }
     requires plan_terms { PlanTerms severity.now chances.now }
     requires last_fits { LastFits last shape severity.now tail }
-    ensures lower { result.lower ≡ values (month Down shape.income severity.now) (rule-by shape) (last-rows last Down shape.income severity.now tail) chances.now (shape.rows - 1) opening }
-    ensures upper { result.upper ≡ values (month Up shape.income severity.now) (rule-by shape) (last-rows last Up shape.income severity.now tail) chances.now (shape.rows - 1) opening }
+    ensures lower { result.lower ≡ values (month Down shape.income severity.now) (rule_by shape) (last_rows last Down shape.income severity.now tail) chances.now (shape.rows - 1) opening }
+    ensures upper { result.upper ≡ values (month Up shape.income severity.now) (rule_by shape) (last_rows last Up shape.income severity.now tail) chances.now (shape.rows - 1) opening }
     ensures cleared { workspace.new ≡ replicate (length workspace.old) 0 }
 {
     let top = opening + shape.income * chances.len();

@@ -3,9 +3,9 @@ mod answers;
 mod bounds;
 
 ghost use Rattle.std.specs.Prelude.{◌≡◌, length};
-ghost use Rattle.model.specs.Plan.{plan-of};
+ghost use Rattle.model.specs.Plan.{plan_of};
 ghost use Rattle.model.specs.Bounds.{EnclosesQuestion, EnclosesRuin};
-ghost use Rattle.engine.specs.Answers.{answer, workspace-after, ruin-answer, ruin-workspace-after};
+ghost use Rattle.engine.specs.Answers.{answer, workspace_after, ruin_answer, ruin_workspace_after};
 
 use crate::answers::{none_allowed, refused, work_out};
 use crate::bounds::LastRows;
@@ -27,8 +27,8 @@ pub struct Answer {
 // month is worked for it.
 pub fn ask(ask: Ask, row: &[u32], workspace: &mut [u32]) -> Answer
     ensures answered { result ≡ answer ask row.now (length workspace.old) }
-    ensures cleared { workspace.new ≡ workspace-after ask row.now workspace.old }
-    ensures encloses { result.refusal ≡ 0 → EnclosesQuestion (plan-of ask.head row.now) ask.question result.lower result.upper }
+    ensures cleared { workspace.new ≡ workspace_after ask row.now workspace.old }
+    ensures encloses { result.refusal ≡ 0 → EnclosesQuestion (plan_of ask.head row.now) ask.question result.lower result.upper }
 {
     let refusal = ask_refusal(ask, row, workspace.len());
     if refusal != 0 {
@@ -46,9 +46,9 @@ pub fn ask(ask: Ask, row: &[u32], workspace: &mut [u32]) -> Answer
 // The bounds of the chance that ruin first comes in this month, of 1 to the plan's last. The workspace is that of survive,
 // and is left as by `ask`.
 pub fn ruin_in_month(head: Head, month: usize, row: &[u32], workspace: &mut [u32]) -> Answer
-    ensures answered { result ≡ ruin-answer head month row.now (length workspace.old) }
-    ensures cleared { workspace.new ≡ ruin-workspace-after head month row.now workspace.old }
-    ensures encloses { result.refusal ≡ 0 → EnclosesRuin (plan-of head row.now) month result.lower result.upper }
+    ensures answered { result ≡ ruin_answer head month row.now (length workspace.old) }
+    ensures cleared { workspace.new ≡ ruin_workspace_after head month row.now workspace.old }
+    ensures encloses { result.refusal ≡ 0 → EnclosesRuin (plan_of head row.now) month result.lower result.upper }
 {
     let check = ruin_refusal(head, month, row, workspace.len());
     if check != 0 {

@@ -1,12 +1,12 @@
 // A question asked of a mixture, document 02's mix: one chance out of several.
 ghost use Rattle.std.specs.Prelude.{◌≡◌, length};
-ghost use Rattle.model.specs.Refusal.{workspace-needed};
-ghost use Rattle.model.specs.Memory.{zero-first};
-ghost use Rattle.mixture_plans.specs.Rows.{components-of};
-ghost use Rattle.mixture_plans.specs.Refusal.{ask-of-one};
+ghost use Rattle.model.specs.Refusal.{workspace_needed};
+ghost use Rattle.model.specs.Memory.{zero_first};
+ghost use Rattle.mixture_plans.specs.Rows.{components_of};
+ghost use Rattle.mixture_plans.specs.Refusal.{ask_of_one};
 ghost use Rattle.mixture.specs.Bounds.{EnclosesMixture};
-ghost use Rattle.mixture.specs.Sums.{Askable, lower-sum, upper-sum};
-ghost use Rattle.mixture.specs.Answers.{mixture-answer, mixture-workspace-after};
+ghost use Rattle.mixture.specs.Sums.{Askable, lower_sum, upper_sum};
+ghost use Rattle.mixture.specs.Answers.{mixture_answer, mixture_workspace_after};
 
 use engine::Answer;
 use mixture_plans::{Mixture, ask_refusal};
@@ -18,9 +18,9 @@ use rounding::divide;
 // Answers one question about a mixture, whose plans' rows lie end to end in the lent row. The workspace is that of the question on one plan; whatever it
 // holds, the part that is needed is 0 after an answer, and nothing else changes.
 pub fn ask(mixture: Mixture, question: Question, row: &[u32], workspace: &mut [u32]) -> Answer
-    ensures answered { result ≡ mixture-answer mixture question row.now (length workspace.old) }
-    ensures cleared { workspace.new ≡ mixture-workspace-after mixture question row.now workspace.old }
-    ensures encloses { result.refusal ≡ 0 → EnclosesMixture (components-of mixture row.now) question result.lower result.upper }
+    ensures answered { result ≡ mixture_answer mixture question row.now (length workspace.old) }
+    ensures cleared { workspace.new ≡ mixture_workspace_after mixture question row.now workspace.old }
+    ensures encloses { result.refusal ≡ 0 → EnclosesMixture (components_of mixture row.now) question result.lower result.upper }
 {
     let refusal = ask_refusal(mixture, question, row, workspace.len());
     if refusal != 0 {
@@ -48,9 +48,9 @@ struct Sums {
 // Each plan is asked in the same workspace, of which all need the same part, since they are alike.
 fn weighted_sums(mixture: Mixture, question: Question, row: &[u32], workspace: &mut [u32]) -> Sums
     requires { Askable mixture question row.now (length workspace.old) }
-    ensures lower { result.lower ≡ lower-sum mixture question row.now }
-    ensures upper { result.upper ≡ upper-sum mixture question row.now }
-    ensures cleared { workspace.new ≡ zero-first (workspace-needed (ask-of-one mixture question)) workspace.old }
+    ensures lower { result.lower ≡ lower_sum mixture question row.now }
+    ensures upper { result.upper ≡ upper_sum mixture question row.now }
+    ensures cleared { workspace.new ≡ zero_first (workspace_needed (ask_of_one mixture question)) workspace.old }
 {
     let heads = mixture.heads;
     let weights = mixture.weights;

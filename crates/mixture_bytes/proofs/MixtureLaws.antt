@@ -10,42 +10,42 @@ use lib.ListN.{length, get_or, take, drop, length-append, length-drop}
 use lib.Seq.{take_all, take_at, drop_at, length-take-le, get_or-take}
 use borrow.Author.Tests.{ltb-false, eqb-false, ne_eqb}
 use Rattle.model.specs.declared.Head.{Head}
-use Rattle.model.specs.Limits.{max-plans, row_room, rows-room}
-use Rattle.model.specs.Plan.{row-length}
+use Rattle.model.specs.Limits.{max_plans, row_room, rows_room}
+use Rattle.model.specs.Plan.{row_length}
 use Rattle.model.specs.Format.{head_of, row_of}
-use Rattle.model.specs.Refusal.{first, read-refusal}
-use Rattle.model.proofs.Facts.{none-fits, neither, not-zero}
+use Rattle.model.specs.Refusal.{first, read_refusal}
+use Rattle.model.proofs.Facts.{none_fits, neither, not_zero}
 use Rattle.plan_bits.proofs.RefusalLaws.{readable, row_is}
 use Rattle.mixture_plans.specs.declared.Mixture.{Mixture}
-use Rattle.mixture_plans.specs.Components.{mixture-check}
-use Rattle.mixture_plans.specs.Rows.{HeadRow, plan-rows, heads-used, rows_of, weighed, components-of}
-use Rattle.mixture_plans.specs.Refusal.{count-outside, each-checks, mixture-refusal, plans-head}
+use Rattle.mixture_plans.specs.Components.{mixture_check}
+use Rattle.mixture_plans.specs.Rows.{HeadRow, plan_rows, heads_used, rows_of, weighed, components_of}
+use Rattle.mixture_plans.specs.Refusal.{count_outside, each_checks, mixture_refusal, plans_head}
 use Rattle.mixture_plans.proofs.RowLaws.{each_next}
 use Rattle.mixture_plans.proofs.CheckLaws.{by_rows}
-use Rattle.mixture_bytes.specs.Format.{count-in, weights-in, plans-start, plan-parts, parts_in, head-row, components-in, head_in}
-use Rattle.mixture_bytes.specs.Refusal.{part-check, parts-refusal, count-checks, count-refusal, bytes-refusal}
-use Rattle.mixture_bytes.specs.Reading.{rows-after, rows_long, PlansRead, MixtureRead}
-use Rattle.mixture_bytes.proofs.PartLaws.{parts_next, parts_then, parts_first, count-then}
-use Rattle.mixture_bytes.proofs.ReadingLaws.{parts-many}
+use Rattle.mixture_bytes.specs.Format.{count_in, weights_in, plans_start, plan_parts, parts_in, head_row, components_in, head_in}
+use Rattle.mixture_bytes.specs.Refusal.{part_check, parts_refusal, count_checks, count_refusal, bytes_refusal}
+use Rattle.mixture_bytes.specs.Reading.{rows_after, rows_long, PlansRead, MixtureRead}
+use Rattle.mixture_bytes.proofs.PartLaws.{parts_next, parts_then, parts_first, count_then}
+use Rattle.mixture_bytes.proofs.ReadingLaws.{parts_many}
 
 -- the first plan is not refused, and neither are the others
-both_read : (part : List ℕ) (parts : List (List ℕ)) → parts-refusal (part ∷ parts) ≡ 0 → (read-refusal part row_room ≡ 0) × (parts-refusal parts ≡ 0)
-both_read part parts e = go (read-refusal part row_room) (sym (parts_next part (map part-check parts)) ∙ e)
+both_read : (part : List ℕ) (parts : List (List ℕ)) → parts_refusal (part ∷ parts) ≡ 0 → (read_refusal part row_room ≡ 0) × (parts_refusal parts ≡ 0)
+both_read part parts e = go (read_refusal part row_room) (sym (parts_next part (map part_check parts)) ∙ e)
   where
-    go : (n : ℕ) → cond (eqb n 0) (parts-refusal parts) n ≡ 0 → (n ≡ 0) × (parts-refusal parts ≡ 0)
+    go : (n : ℕ) → cond (eqb n 0) (parts_refusal parts) n ≡ 0 → (n ≡ 0) × (parts_refusal parts ≡ 0)
     go zero z = (refl, z)
     go (suc n) z = absurd (omega (arith, rw (ne_eqb (suc n) 0 (λ y. omega (arith, y))) at z))
 
 -- so each plan is accepted, …
-each_read : (parts : List (List ℕ)) → parts-refusal parts ≡ 0 → first (each-checks (map head-row parts)) ≡ 0
-unfolding each-checks flat_map first
+each_read : (parts : List (List ℕ)) → parts_refusal parts ≡ 0 → first (each_checks (map head_row parts)) ≡ 0
+unfolding each_checks flat_map first
 each_read [] e = refl
 each_read (part ∷ parts) e =
     let both = both_read part parts e in
-    each_next (head_of part) (row_of part) (map head-row parts) ∙ (rw (readable part row_room both.0).accepted (each_read parts both.1))
+    each_next (head_of part) (row_of part) (map head_row parts) ∙ (rw (readable part row_room both.0).accepted (each_read parts both.1))
 
 -- … their rows have room, …
-rows_few : (parts : List (List ℕ)) → parts-refusal parts ≡ 0 → rows_long parts ≤ length parts * row_room
+rows_few : (parts : List (List ℕ)) → parts_refusal parts ≡ 0 → rows_long parts ≤ length parts * row_room
 unfolding rows_long
 rows_few [] e = omega arith
 rows_few (part ∷ parts) e =
@@ -53,174 +53,174 @@ rows_few (part ∷ parts) e =
     omega (arith, rows_few parts both.1, (readable part row_room both.0).row_fits)
 
 -- … and lie in the row end to end
-rows_lie : (parts : List (List ℕ)) (at : ℕ) (row : List ℕ) → parts-refusal parts ≡ 0 → at + rows_long parts ≤ length row → take (at + rows_long parts) (rows-after parts at row) ≡ take at row ++ flat_map row_of parts
-unfolding rows-after rows_long flat_map
+rows_lie : (parts : List (List ℕ)) (at : ℕ) (row : List ℕ) → parts_refusal parts ≡ 0 → at + rows_long parts ≤ length row → take (at + rows_long parts) (rows_after parts at row) ≡ take at row ++ flat_map row_of parts
+unfolding rows_after rows_long flat_map
 rows_lie [] at row e l = ap (λ (n : ℕ). take n row) (add-zero at) ∙ sym (append-nil (take at row))
 rows_lie (part ∷ parts) at row e l =
     let both = both_read part parts e in
-    let L : ℕ = row-length (head_of part) in
+    let L : ℕ = row_length (head_of part) in
     let next : List ℕ = take at row ++ row_of part ++ drop (at + L) row in
     let front : length (take at row ++ row_of part) ≡ at + L = length-append (take at row) (row_of part) ∙ (rw (row_is part, length-take-le at row (omega arith)) refl) in
     let long : at + L + rows_long parts ≤ length next = omega (arith, length-append (take at row ++ row_of part) (drop (at + L) row), front, length-drop (at + L) row) in
     rw both.0
-    (ap (λ (n : ℕ). take n (rows-after parts (at + L) next)) (sym (add_assoc at L (rows_long parts)))
+    (ap (λ (n : ℕ). take n (rows_after parts (at + L) next)) (sym (add_assoc at L (rows_long parts)))
     ∙ rows_lie parts (at + L) next both.1 long
     ∙ ap (λ (xs : List ℕ). xs ++ flat_map row_of parts) (take_at (take at row ++ row_of part) (drop (at + L) row) (at + L) front)
     ∙ append_assoc (take at row) (row_of part) (flat_map row_of parts))
 
 -- cut apart again by their heads they are the plans
-rows_apart : (parts : List (List ℕ)) → plan-rows (map head_of parts) (flat_map row_of parts) ≡ map head-row parts
-unfolding plan-rows flat_map
+rows_apart : (parts : List (List ℕ)) → plan_rows (map head_of parts) (flat_map row_of parts) ≡ map head_row parts
+unfolding plan_rows flat_map
 rows_apart [] = refl
 rows_apart (part ∷ []) = ap (λ (xs : List ℕ). (head_of part, xs) ∷ []) (append-nil (row_of part))
 rows_apart (part ∷ part' ∷ parts) =
-    rw (take_at (row_of part) (flat_map row_of (part' ∷ parts)) (row-length (head_of part)) (row_is part), drop_at (row_of part) (flat_map row_of (part' ∷ parts)) (row-length (head_of part)) (row_is part))
-    (ap (λ (rs : List HeadRow). head-row part ∷ rs) (rows_apart (part' ∷ parts)))
+    rw (take_at (row_of part) (flat_map row_of (part' ∷ parts)) (row_length (head_of part)) (row_is part), drop_at (row_of part) (flat_map row_of (part' ∷ parts)) (row_length (head_of part)) (row_is part))
+    (ap (λ (rs : List HeadRow). head_row part ∷ rs) (rows_apart (part' ∷ parts)))
 
 -- what is known where no check before the plans fits
 pub record Counted (bytes : List ℕ) : Type 0 where
-  pub some : 0 < count-in bytes
-  pub few : count-in bytes ≤ max-plans
-  pub within : count-outside (count-in bytes) ≡ false
-  pub enough : plans-start (count-in bytes) ≤ length bytes
+  pub some : 0 < count_in bytes
+  pub few : count_in bytes ≤ max_plans
+  pub within : count_outside (count_in bytes) ≡ false
+  pub enough : plans_start (count_in bytes) ≤ length bytes
 
-pub count-known : (bytes : List ℕ) (n : ℕ) → n ≡ count-refusal bytes → n ≡ 0 → Counted bytes
-unfolding count-checks count-outside
-count-known bytes n is none =
-    let first-ok = none-fits _ _ _ (sym is ∙ none) in
-    let count-ok = none-fits _ _ _ first-ok.1 in
-    let in-range = neither (eqb (count-in bytes) 0) (ltb max-plans (count-in bytes)) count-ok.0 in
+pub count_known : (bytes : List ℕ) (n : ℕ) → n ≡ count_refusal bytes → n ≡ 0 → Counted bytes
+unfolding count_checks count_outside
+count_known bytes n is none =
+    let first_ok = none_fits _ _ _ (sym is ∙ none) in
+    let count_ok = none_fits _ _ _ first_ok.1 in
+    let in_range = neither (eqb (count_in bytes) 0) (ltb max_plans (count_in bytes)) count_ok.0 in
     record {
-      some = not-zero (eqb-false _ _ in-range.0);
-      few = ltb-false _ _ in-range.1;
-      within = count-ok.0;
-      enough = ltb-false _ _ (none-fits _ _ _ count-ok.1).0;
+      some = not_zero (eqb-false _ _ in_range.0);
+      few = ltb-false _ _ in_range.1;
+      within = count_ok.0;
+      enough = ltb-false _ _ (none_fits _ _ _ count_ok.1).0;
     }
 
 -- a refusal before the plans, and one of theirs
-pub refused-early : (bytes : List ℕ) (n : ℕ) → n ≡ count-refusal bytes → (n ≡ 0 → ⊥) → n ≡ bytes-refusal bytes
-refused-early bytes n is ne = sym (count-then bytes ∙ (rw (← is, ne_eqb n 0 ne)))
+pub refused_early : (bytes : List ℕ) (n : ℕ) → n ≡ count_refusal bytes → (n ≡ 0 → ⊥) → n ≡ bytes_refusal bytes
+refused_early bytes n is ne = sym (count_then bytes ∙ (rw (← is, ne_eqb n 0 ne)))
 
-past-count :
-    (bytes : List ℕ) (early : ℕ) → early ≡ count-refusal bytes → early ≡ 0 → bytes-refusal bytes ≡ first (map part-check (parts_in bytes) ++ mixture-check (components-in bytes) ∷ [])
-past-count bytes early is none = count-then bytes ∙ (rw (sym is ∙ none))
+past_count :
+    (bytes : List ℕ) (early : ℕ) → early ≡ count_refusal bytes → early ≡ 0 → bytes_refusal bytes ≡ first (map part_check (parts_in bytes) ++ mixture_check (components_in bytes) ∷ [])
+past_count bytes early is none = count_then bytes ∙ (rw (sym is ∙ none))
 
-pub refused-part :
-    (bytes : List ℕ) (early : ℕ) → early ≡ count-refusal bytes → early ≡ 0 → (n : ℕ) → n ≡ parts-refusal (parts_in bytes) → (n ≡ 0 → ⊥) → n ≡ bytes-refusal bytes
-refused-part bytes early is none n en ne =
-    sym (past-count bytes early is none ∙ parts_first (parts_in bytes) (mixture-check (components-in bytes) ∷ []) (λ z. ne (en ∙ z)) ∙ sym en)
+pub refused_part :
+    (bytes : List ℕ) (early : ℕ) → early ≡ count_refusal bytes → early ≡ 0 → (n : ℕ) → n ≡ parts_refusal (parts_in bytes) → (n ≡ 0 → ⊥) → n ≡ bytes_refusal bytes
+refused_part bytes early is none n en ne =
+    sym (past_count bytes early is none ∙ parts_first (parts_in bytes) (mixture_check (components_in bytes) ∷ []) (λ z. ne (en ∙ z)) ∙ sym en)
 
 -- The mixture as it was read: its refusal is that of the bytes, and where there is none it holds what they say.
 module _
-    (bytes : List ℕ) (early : ℕ) (is : early ≡ count-refusal bytes) (none : early ≡ 0) (all_read : parts-refusal (parts_in bytes) ≡ 0)
-    (heads : List Head) (used : ℕ) (plans : PlansRead (parts_in bytes) heads used) (blank row : List ℕ) (room : length blank ≡ rows-room)
-    (left : row ≡ rows-after (parts_in bytes) 0 blank) (weights : List ℕ) (weighing : take (count-in bytes) weights ≡ weights-in (count-in bytes) (drop 1 bytes))
-    (weights-long : length weights ≡ max-plans)
+    (bytes : List ℕ) (early : ℕ) (is : early ≡ count_refusal bytes) (none : early ≡ 0) (all_read : parts_refusal (parts_in bytes) ≡ 0)
+    (heads : List Head) (used : ℕ) (plans : PlansRead (parts_in bytes) heads used) (blank row : List ℕ) (room : length blank ≡ rows_room)
+    (left : row ≡ rows_after (parts_in bytes) 0 blank) (weights : List ℕ) (weighing : take (count_in bytes) weights ≡ weights_in (count_in bytes) (drop 1 bytes))
+    (weights_long : length weights ≡ max_plans)
   where
     abbrev m : Mixture
-    m = record { count = count-in bytes; heads = heads; weights = weights }
+    m = record { count = count_in bytes; heads = heads; weights = weights }
 
     known : Counted bytes
-    known = count-known bytes early is none
+    known = count_known bytes early is none
 
-    many : length (parts_in bytes) ≡ count-in bytes
-    many = parts-many (count-in bytes) (drop (plans-start (count-in bytes)) bytes)
+    many : length (parts_in bytes) ≡ count_in bytes
+    many = parts_many (count_in bytes) (drop (plans_start (count_in bytes)) bytes)
 
-    used-fits : used ≤ rows-room
-    used-fits = omega (arith, plans.used-is, rows_few (parts_in bytes) all_read, many, mul-le-mul_right row_room known.few)
+    used_fits : used ≤ rows_room
+    used_fits = omega (arith, plans.used_is, rows_few (parts_in bytes) all_read, many, mul-le-mul_right row_room known.few)
 
     rows_are : take used row ≡ flat_map row_of (parts_in bytes)
     rows_are =
-        ap₂ take (plans.used-is ∙ sym (zero-add (rows_long (parts_in bytes)))) left
-        ∙ rows_lie (parts_in bytes) 0 blank all_read (omega (arith, room, used-fits, plans.used-is))
+        ap₂ take (plans.used_is ∙ sym (zero-add (rows_long (parts_in bytes)))) left
+        ∙ rows_lie (parts_in bytes) 0 blank all_read (omega (arith, room, used_fits, plans.used_is))
 
-    heads-are : heads-used m ≡ map head_of (parts_in bytes)
-    heads-are = ap (λ (n : ℕ). take n heads) (sym many) ∙ plans.heads-are
+    heads_are : heads_used m ≡ map head_of (parts_in bytes)
+    heads_are = ap (λ (n : ℕ). take n heads) (sym many) ∙ plans.heads_are
 
-    plans-are : rows_of m (take used row) ≡ map head-row (parts_in bytes)
-    plans-are = ap₂ plan-rows heads-are rows_are ∙ rows_apart (parts_in bytes)
+    plans_are : rows_of m (take used row) ≡ map head_row (parts_in bytes)
+    plans_are = ap₂ plan_rows heads_are rows_are ∙ rows_apart (parts_in bytes)
 
-    components-are : components-of m (take used row) ≡ components-in bytes
-    unfolding components-of components-in
-    components-are = ap₂ weighed weighing plans-are
+    components_are : components_of m (take used row) ≡ components_in bytes
+    unfolding components_of components_in
+    components_are = ap₂ weighed weighing plans_are
 
-    number_is : mixture-refusal m (take used row) ≡ bytes-refusal bytes
+    number_is : mixture_refusal m (take used row) ≡ bytes_refusal bytes
     number_is =
-        let last : ℕ = first (mixture-check (components-in bytes) ∷ []) in
-        let ours : mixture-refusal m (take used row) ≡ last = by_rows m (take used row) known.within ∙ (rw (plans-are, each_read (parts_in bytes) all_read, components-are)) in
-        let theirs : bytes-refusal bytes ≡ last =
-        past-count bytes early is none ∙ parts_then (parts_in bytes) (mixture-check (components-in bytes) ∷ []) ∙ (rw all_read) in
+        let last : ℕ = first (mixture_check (components_in bytes) ∷ []) in
+        let ours : mixture_refusal m (take used row) ≡ last = by_rows m (take used row) known.within ∙ (rw (plans_are, each_read (parts_in bytes) all_read, components_are)) in
+        let theirs : bytes_refusal bytes ≡ last =
+        past_count bytes early is none ∙ parts_then (parts_in bytes) (mixture_check (components_in bytes) ∷ []) ∙ (rw all_read) in
         ours ∙ sym theirs
 
-    head-is : plans-head m ≡ head_in bytes
-    head-is = go (count-in bytes) refl (parts_in bytes) many heads-are
+    head_is : plans_head m ≡ head_in bytes
+    head_is = go (count_in bytes) refl (parts_in bytes) many heads_are
       where
-        go : (n : ℕ) → count-in bytes ≡ n → (parts : List (List ℕ)) → length parts ≡ n → take n heads ≡ map head_of parts → get_or heads 0 (record { months = 0; opening = 0; sizes = 0; income = 0 }) ≡ head_of (get_or parts 0 [])
+        go : (n : ℕ) → count_in bytes ≡ n → (parts : List (List ℕ)) → length parts ≡ n → take n heads ≡ map head_of parts → get_or heads 0 (record { months = 0; opening = 0; sizes = 0; income = 0 }) ≡ head_of (get_or parts 0 [])
         go zero e parts l h = absurd (omega (arith, e, known.some))
         go (suc n) e [] l h = absurd (omega (arith, l))
         go (suc n) e (part ∷ parts) l h =
             sym (get_or-take (suc n) heads 0 (record { months = 0; opening = 0; sizes = 0; income = 0 }) (omega arith))
             ∙ ap (λ (hs : List Head). get_or hs 0 (record { months = 0; opening = 0; sizes = 0; income = 0 })) h
 
-    pub mixture-read :
-        length row ≡ length blank → (n : ℕ) → n ≡ mixture-refusal m (take used row) → (n ≡ bytes-refusal bytes) × (n ≡ 0 → MixtureRead bytes m used row)
-    mixture-read same n en = (
+    pub mixture_read :
+        length row ≡ length blank → (n : ℕ) → n ≡ mixture_refusal m (take used row) → (n ≡ bytes_refusal bytes) × (n ≡ 0 → MixtureRead bytes m used row)
+    mixture_read same n en = (
       en ∙ number_is,
       λ z.
           record {
-            within = omega (arith, used-fits, same, room);
-            heads-long = plans.heads-long;
-            weights-long = weights-long;
+            within = omega (arith, used_fits, same, room);
+            heads_long = plans.heads_long;
+            weights_long = weights_long;
             accepted = sym en ∙ z;
-            components = components-are;
-            head = head-is;
+            components = components_are;
+            head = head_is;
           },
     )
 
-    pub used-inside : length row ≡ length blank → used ≤ length row
-    used-inside same = omega (arith, used-fits, same, room)
+    pub used_inside : length row ≡ length blank → used ≤ length row
+    used_inside same = omega (arith, used_fits, same, room)
 
 -- the plans' bytes and the weights' as they are lent
-pub parts-lent : (bytes : List ℕ) (count : ℕ) → count ≡ count-in bytes → plan-parts count (take (length bytes - (1 + 4 * count)) (drop (1 + 4 * count) bytes)) ≡ parts_in bytes
-parts-lent bytes count e =
-    ap (plan-parts count) (take_all (length bytes - (1 + 4 * count)) (drop (1 + 4 * count) bytes) (rw length-drop (omega arith)))
-    ∙ ap (λ (n : ℕ). plan-parts n (drop (plans-start n) bytes)) e
+pub parts_lent : (bytes : List ℕ) (count : ℕ) → count ≡ count_in bytes → plan_parts count (take (length bytes - (1 + 4 * count)) (drop (1 + 4 * count) bytes)) ≡ parts_in bytes
+parts_lent bytes count e =
+    ap (plan_parts count) (take_all (length bytes - (1 + 4 * count)) (drop (1 + 4 * count) bytes) (rw length-drop (omega arith)))
+    ∙ ap (λ (n : ℕ). plan_parts n (drop (plans_start n) bytes)) e
 
-weights-lent : (bytes : List ℕ) (count : ℕ) → count ≡ count-in bytes → weights-in count (take (length bytes - 1) (drop 1 bytes)) ≡ weights-in (count-in bytes) (drop 1 bytes)
-weights-lent bytes count e =
-    ap (weights-in count) (take_all (length bytes - 1) (drop 1 bytes) (rw length-drop (omega arith))) ∙ ap (λ (n : ℕ). weights-in n (drop 1 bytes)) e
+weights_lent : (bytes : List ℕ) (count : ℕ) → count ≡ count_in bytes → weights_in count (take (length bytes - 1) (drop 1 bytes)) ≡ weights_in (count_in bytes) (drop 1 bytes)
+weights_lent bytes count e =
+    ap (weights_in count) (take_all (length bytes - 1) (drop 1 bytes) (rw length-drop (omega arith))) ∙ ap (λ (n : ℕ). weights_in n (drop 1 bytes)) e
 
 -- the same of what the functions answer
 module _
-    (bytes : List ℕ) (early : ℕ) (is : early ≡ count-refusal bytes) (none : early ≡ 0) (count : ℕ) (counted : count ≡ count-in bytes) (of-plans : ℕ)
-    (number : of-plans ≡ parts-refusal (plan-parts count (take (length bytes - (1 + 4 * count)) (drop (1 + 4 * count) bytes))))
+    (bytes : List ℕ) (early : ℕ) (is : early ≡ count_refusal bytes) (none : early ≡ 0) (count : ℕ) (counted : count ≡ count_in bytes) (of_plans : ℕ)
+    (number : of_plans ≡ parts_refusal (plan_parts count (take (length bytes - (1 + 4 * count)) (drop (1 + 4 * count) bytes))))
   where
-    pub refused-plan : (of-plans ≡ 0 → ⊥) → of-plans ≡ bytes-refusal bytes
-    refused-plan ne = refused-part bytes early is none of-plans (number ∙ ap parts-refusal (parts-lent bytes count counted)) ne
+    pub refused_plan : (of_plans ≡ 0 → ⊥) → of_plans ≡ bytes_refusal bytes
+    refused_plan ne = refused_part bytes early is none of_plans (number ∙ ap parts_refusal (parts_lent bytes count counted)) ne
 
     module _
-        (unrefused : of-plans ≡ 0) (heads : List Head) (used : ℕ)
-        (plans : of-plans ≡ 0 → PlansRead (plan-parts count (take (length bytes - (1 + 4 * count)) (drop (1 + 4 * count) bytes))) heads used)
-        (blank row : List ℕ) (room : rows-room ≡ length blank)
-        (left : row ≡ rows-after (plan-parts count (take (length bytes - (1 + 4 * count)) (drop (1 + 4 * count) bytes))) 0 blank) (same : length row ≡ length blank)
-        (weights : List ℕ) (weighing : take count weights ≡ weights-in count (take (length bytes - 1) (drop 1 bytes))) (weights-long : length weights ≡ max-plans)
+        (unrefused : of_plans ≡ 0) (heads : List Head) (used : ℕ)
+        (plans : of_plans ≡ 0 → PlansRead (plan_parts count (take (length bytes - (1 + 4 * count)) (drop (1 + 4 * count) bytes))) heads used)
+        (blank row : List ℕ) (room : rows_room ≡ length blank)
+        (left : row ≡ rows_after (plan_parts count (take (length bytes - (1 + 4 * count)) (drop (1 + 4 * count) bytes))) 0 blank) (same : length row ≡ length blank)
+        (weights : List ℕ) (weighing : take count weights ≡ weights_in count (take (length bytes - 1) (drop 1 bytes))) (weights_long : length weights ≡ max_plans)
       where
-        all_read : parts-refusal (parts_in bytes) ≡ 0
-        all_read = ap parts-refusal (sym (parts-lent bytes count counted)) ∙ sym number ∙ unrefused
+        all_read : parts_refusal (parts_in bytes) ≡ 0
+        all_read = ap parts_refusal (sym (parts_lent bytes count counted)) ∙ sym number ∙ unrefused
 
-        plans-as : PlansRead (parts_in bytes) heads used
-        plans-as = rw (parts-lent bytes count counted) at (plans unrefused)
+        plans_as : PlansRead (parts_in bytes) heads used
+        plans_as = rw (parts_lent bytes count counted) at (plans unrefused)
 
-        left_as : row ≡ rows-after (parts_in bytes) 0 blank
-        left_as = left ∙ ap (λ ps. rows-after ps 0 blank) (parts-lent bytes count counted)
+        left_as : row ≡ rows_after (parts_in bytes) 0 blank
+        left_as = left ∙ ap (λ ps. rows_after ps 0 blank) (parts_lent bytes count counted)
 
-        weights-as : take (count-in bytes) weights ≡ weights-in (count-in bytes) (drop 1 bytes)
-        weights-as = ap (λ (n : ℕ). take n weights) (sym counted) ∙ weighing ∙ weights-lent bytes count counted
+        weights_as : take (count_in bytes) weights ≡ weights_in (count_in bytes) (drop 1 bytes)
+        weights_as = ap (λ (n : ℕ). take n weights) (sym counted) ∙ weighing ∙ weights_lent bytes count counted
 
-        pub lent-inside : used ≤ length row
-        lent-inside = used-inside bytes early is none all_read heads used plans-as blank row (sym room) left_as weights weights-as weights-long same
+        pub lent_inside : used ≤ length row
+        lent_inside = used_inside bytes early is none all_read heads used plans_as blank row (sym room) left_as weights weights_as weights_long same
 
         pub read_as :
-            (n : ℕ) → n ≡ mixture-refusal (record { count = count; heads = heads; weights = weights }) (take used row) →
-            (n ≡ bytes-refusal bytes) × (n ≡ 0 → MixtureRead bytes (record { count = count; heads = heads; weights = weights }) used row)
-        read_as n en = rw counted (mixture-read bytes early is none all_read heads used plans-as blank row (sym room) left_as weights weights-as weights-long same n (rw counted at en))
+            (n : ℕ) → n ≡ mixture_refusal (record { count = count; heads = heads; weights = weights }) (take used row) →
+            (n ≡ bytes_refusal bytes) × (n ≡ 0 → MixtureRead bytes (record { count = count; heads = heads; weights = weights }) used row)
+        read_as n en = rw counted (mixture_read bytes early is none all_read heads used plans_as blank row (sym room) left_as weights weights_as weights_long same n (rw counted at en))

@@ -1,12 +1,12 @@
 // The bytes of a mixture, read into a head and a weight for each plan and one row with the plans' rows end to end.
 ghost use Rattle.std.specs.Prelude.{◌≡◌, cond, ◌+◌, ◌*◌, ◌≤◌, ◌<◌, min, length, take};
-ghost use Rattle.model.specs.Limits.{max-plans, row_room, rows-room};
-ghost use Rattle.model.specs.Format.{head_bytes, head_of, byte-length};
-ghost use Rattle.model.specs.Refusal.{HeadAccepted, read-refusal};
-ghost use Rattle.codec.specs.Answers.{row-after};
-ghost use Rattle.mixture_bytes.specs.Format.{weights-in, part_of, plan-parts};
-ghost use Rattle.mixture_bytes.specs.Refusal.{early-refusal, count-refusal, parts-refusal, bytes-refusal};
-ghost use Rattle.mixture_bytes.specs.Reading.{rows-after, PartRead, PlansRead, MixtureRead};
+ghost use Rattle.model.specs.Limits.{max_plans, row_room, rows_room};
+ghost use Rattle.model.specs.Format.{head_bytes, head_of, byte_length};
+ghost use Rattle.model.specs.Refusal.{HeadAccepted, read_refusal};
+ghost use Rattle.codec.specs.Answers.{row_after};
+ghost use Rattle.mixture_bytes.specs.Format.{weights_in, part_of, plan_parts};
+ghost use Rattle.mixture_bytes.specs.Refusal.{early_refusal, count_refusal, parts_refusal, bytes_refusal};
+ghost use Rattle.mixture_bytes.specs.Reading.{rows_after, PartRead, PlansRead, MixtureRead};
 
 use mixture_plans::{Mixture, count_is_outside, mixture_refusal};
 use model::{Head, limits};
@@ -44,7 +44,7 @@ struct BytePart {
 
 // Reads a mixture into a row of its own.
 pub fn read_mixture(bytes: &[u8]) -> ByteMixture
-    ensures number { result.refusal ≡ bytes-refusal bytes.now }
+    ensures number { result.refusal ≡ bytes_refusal bytes.now }
     ensures read { result.refusal ≡ 0 → MixtureRead bytes.now result.mixture result.used result.row }
 {
     let mut row = blank_rows();
@@ -94,7 +94,7 @@ pub fn read_mixture(bytes: &[u8]) -> ByteMixture
 }
 
 fn no_heads() -> [Head; limits::PLANS]
-    ensures { length result ≡ max-plans }
+    ensures { length result ≡ max_plans }
 {
     let none = Head {
         months: 0,
@@ -107,7 +107,7 @@ fn no_heads() -> [Head; limits::PLANS]
 
 // 1 where there is no byte, 18 for the count, 1 where there are fewer bytes than the weights need.
 fn count_refusal(bytes: &[u8]) -> u32
-    ensures { result ≡ count-refusal bytes.now }
+    ensures { result ≡ count_refusal bytes.now }
 {
     if bytes.len() == 0 {
         return 1;
@@ -121,9 +121,9 @@ fn count_refusal(bytes: &[u8]) -> u32
 
 // So many weights of four bytes; what lies past them is 0.
 fn read_weights(bytes: &[u8], count: usize) -> [u32; limits::PLANS]
-    requires { (count ≤ max-plans) × (4 * count ≤ length bytes.now) }
-    ensures read { take count result ≡ weights-in count bytes.now }
-    ensures sized { length result ≡ max-plans }
+    requires { (count ≤ max_plans) × (4 * count ≤ length bytes.now) }
+    ensures read { take count result ≡ weights_in count bytes.now }
+    ensures sized { length result ≡ max_plans }
 {
     let mut weights = [0u32; limits::PLANS];
     let mut i = 0;
@@ -136,11 +136,11 @@ fn read_weights(bytes: &[u8], count: usize) -> [u32; limits::PLANS]
 
 // Each plan in turn, up to the first that is refused.
 fn read_plans(bytes: &[u8], count: usize, none: [Head; limits::PLANS], row: &mut [u32]) -> BytePlans
-    requires count_nonzero { (0 < count) × ((count ≤ max-plans) × (length none ≡ max-plans)) }
-    requires row_len { length row.old ≡ rows-room }
-    ensures number { result.refusal ≡ parts-refusal (plan-parts count bytes.now) }
-    ensures read { result.refusal ≡ 0 → PlansRead (plan-parts count bytes.now) result.heads result.used }
-    ensures memory { row.new ≡ rows-after (plan-parts count bytes.now) 0 row.old }
+    requires count_nonzero { (0 < count) × ((count ≤ max_plans) × (length none ≡ max_plans)) }
+    requires row_len { length row.old ≡ rows_room }
+    ensures number { result.refusal ≡ parts_refusal (plan_parts count bytes.now) }
+    ensures read { result.refusal ≡ 0 → PlansRead (plan_parts count bytes.now) result.heads result.used }
+    ensures memory { row.new ≡ rows_after (plan_parts count bytes.now) 0 row.old }
 {
     let mut heads = none;
     let mut i = 0;
@@ -174,9 +174,9 @@ fn read_plans(bytes: &[u8], count: usize, none: [Head; limits::PLANS], row: &mut
 // The plan that bytes begin with, read into a row with room for every plan's.
 fn read_part(bytes: &[u8], last: bool, row: &mut [u32]) -> BytePart
     requires { length row.old ≡ row_room }
-    ensures number { result.refusal ≡ read-refusal (part_of last bytes.now) row_room }
+    ensures number { result.refusal ≡ read_refusal (part_of last bytes.now) row_room }
     ensures read { result.refusal ≡ 0 → PartRead last bytes.now result.head result.length }
-    ensures memory { row.new ≡ row-after (part_of last bytes.now) row.old }
+    ensures memory { row.new ≡ row_after (part_of last bytes.now) row.old }
 {
     let early = early_refusal(bytes);
     if early != 0 {
@@ -204,7 +204,7 @@ fn read_part(bytes: &[u8], last: bool, row: &mut [u32]) -> BytePart
 
 // What can be told of a plan before its length is looked at.
 fn early_refusal(bytes: &[u8]) -> u32
-    ensures { result ≡ early-refusal bytes.now }
+    ensures { result ≡ early_refusal bytes.now }
 {
     if bytes.len() < format::HEAD_BYTES {
         return 1;
@@ -215,7 +215,7 @@ fn early_refusal(bytes: &[u8]) -> u32
 // How many bytes are the plan's: the last one has all that is left.
 fn part_length(bytes: &[u8], last: bool) -> usize
     requires { (head_bytes ≤ length bytes.now) × HeadAccepted (head_of bytes.now) }
-    ensures { result ≡ cond last (length bytes.now) (min (byte-length (head_of bytes.now)) (length bytes.now)) }
+    ensures { result ≡ cond last (length bytes.now) (min (byte_length (head_of bytes.now)) (length bytes.now)) }
 {
     if last {
         return bytes.len();

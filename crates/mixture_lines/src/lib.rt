@@ -2,13 +2,13 @@
 // limits and enough room give.
 ghost use Rattle.std.specs.Prelude.{◌≡◌, false, ◌+◌, ◌*◌, ◌≤◌, length};
 ghost use Rattle.model.specs.Refusal.{outside};
-ghost use Rattle.mixture_plans.specs.Rows.{components-of};
-ghost use Rattle.mixture_plans.specs.Refusal.{plans-head};
+ghost use Rattle.mixture_plans.specs.Rows.{components_of};
+ghost use Rattle.mixture_plans.specs.Refusal.{plans_head};
 ghost use Rattle.text.specs.Text.{Appended};
-ghost use Rattle.report_lines.specs.Asking.{question-needs, Cleared};
-ghost use Rattle.report_lines.specs.Lines.{line-room};
-ghost use Rattle.report_groups.specs.Groups.{question-lines, group_lines, lines-need, group-needs, LinesFit, most-lines};
-ghost use Rattle.mixture_lines.specs.Lines.{mixture-line, mixture-report, mixture-text-room, MixtureAnswerable, mixture-needs};
+ghost use Rattle.report_lines.specs.Asking.{question_needs, Cleared};
+ghost use Rattle.report_lines.specs.Lines.{line_room};
+ghost use Rattle.report_groups.specs.Groups.{question_lines, group_lines, lines_need, group_needs, LinesFit, most_lines};
+ghost use Rattle.mixture_lines.specs.Lines.{mixture_line, mixture_report, mixture_text_room, MixtureAnswerable, mixture_needs};
 
 use mixture::ask;
 use mixture_plans::Mixture;
@@ -19,9 +19,9 @@ use report_lines::lines::{put_bounds, put_head};
 // All lines of the report, from the start of the text.
 pub fn put_mixture(text: &mut [u8], mixture: Mixture, row: &[u32], workspace: &mut [u32]) -> usize
     requires mixture_answerable { MixtureAnswerable mixture row.now workspace.old }
-    requires mixture_text_room_in_bounds { mixture-text-room ≤ length text.old }
-    ensures written { Appended text.old 0 (mixture-report (plans-head mixture) (components-of mixture row.now)) text.new result }
-    ensures cleared { Cleared (mixture-needs mixture) workspace.old workspace.new }
+    requires mixture_text_room_in_bounds { mixture_text_room ≤ length text.old }
+    ensures written { Appended text.old 0 (mixture_report (plans_head mixture) (components_of mixture row.now)) text.new result }
+    ensures cleared { Cleared (mixture_needs mixture) workspace.old workspace.new }
 {
     let heads = mixture.heads;
     let end = put_head(text, 0, heads[0]);
@@ -41,9 +41,9 @@ fn put_group(
     workspace: &mut [u32],
 ) -> usize
     requires mixture_answerable { MixtureAnswerable mixture row.now workspace.old }
-    requires line_room_in_bounds { at + most-lines question * line-room ≤ length text.old }
-    ensures written { Appended text.old at (group_lines (mixture-line (components-of mixture row.now)) (plans-head mixture) question) text.new result }
-    ensures cleared { Cleared (group-needs (plans-head mixture) question) workspace.old workspace.new }
+    requires line_room_in_bounds { at + most_lines question * line_room ≤ length text.old }
+    ensures written { Appended text.old at (group_lines (mixture_line (components_of mixture row.now)) (plans_head mixture) question) text.new result }
+    ensures cleared { Cleared (group_needs (plans_head mixture) question) workspace.old workspace.new }
 {
     let heads = mixture.heads;
     let range = line_range(question, heads[0]);
@@ -72,8 +72,8 @@ fn put_range(
 ) -> usize
     requires mixture_answerable { MixtureAnswerable mixture row.now workspace.old }
     requires lines_fit { LinesFit question first count at text.old }
-    ensures written { Appended text.old at (question-lines (mixture-line (components-of mixture row.now)) question first count) text.new result }
-    ensures cleared { Cleared (lines-need (plans-head mixture) question first count) workspace.old workspace.new }
+    ensures written { Appended text.old at (question_lines (mixture_line (components_of mixture row.now)) question first count) text.new result }
+    ensures cleared { Cleared (lines_need (plans_head mixture) question first count) workspace.old workspace.new }
 {
     let mut end = at;
     let mut i = 0;
@@ -102,9 +102,9 @@ fn put_question(
 ) -> usize
     requires mixture_answerable { MixtureAnswerable mixture row.now workspace.old }
     requires question_value { outside question ≡ false }
-    requires line_room_in_bounds { at + line-room ≤ length text.old }
-    ensures written { Appended text.old at (mixture-line (components-of mixture row.now) question) text.new result }
-    ensures cleared { Cleared (question-needs (plans-head mixture) question) workspace.old workspace.new }
+    requires line_room_in_bounds { at + line_room ≤ length text.old }
+    ensures written { Appended text.old at (mixture_line (components_of mixture row.now) question) text.new result }
+    ensures cleared { Cleared (question_needs (plans_head mixture) question) workspace.old workspace.new }
 {
     let bounds = ask(mixture, question, row, workspace);
     put_bounds(text, at, question, bounds.lower as u64, bounds.upper as u64)

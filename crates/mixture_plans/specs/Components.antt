@@ -13,11 +13,11 @@ pub record Component : Type 0 where
 abbrev pub Components : Type 0
 Components = List Component
 
-abbrev pub weights-of : Components → List ℕ
-weights-of cs = map (λ (c : Component). c.weight) cs
+abbrev pub weights_of : Components → List ℕ
+weights_of cs = map (λ (c : Component). c.weight) cs
 
-abbrev pub plans-of : Components → List Plan
-plans-of cs = map (λ (c : Component). c.plan) cs
+abbrev pub plans_of : Components → List Plan
+plans_of cs = map (λ (c : Component). c.plan) cs
 
 -- "alike but for their chances": whether two plans have the same months, opening, income, weights and over
 unfoldable pub alike : Plan → Plan → Bool
@@ -34,5 +34,5 @@ unlike [] = false
 unlike (p ∷ ps) = any (λ p'. not (alike p p')) ps
 
 -- 18 mix: "plans unlike elsewhere or mix weights that do not add to S"
-unfoldable pub mixture-check : Components → ℕ × Bool
-mixture-check cs = (18, unlike (plans-of cs) || not (eqb (total (weights-of cs)) S))
+unfoldable pub mixture_check : Components → ℕ × Bool
+mixture_check cs = (18, unlike (plans_of cs) || not (eqb (total (weights_of cs)) S))

@@ -3,11 +3,11 @@ ghost use Rattle.std.specs.Prelude.{◌≡◌, true, cond, ◌+◌, ◌-◌, ◌
 ghost use Rattle.numbers.specs.Same.{same};
 ghost use Rattle.model.specs.Scale.{S};
 ghost use Rattle.model.specs.Sums.{total};
-ghost use Rattle.model.specs.Plan.{row-length};
+ghost use Rattle.model.specs.Plan.{row_length};
 ghost use Rattle.model.specs.Refusal.{HeadAccepted, first};
 ghost use Rattle.mixture_plans.specs.Components.{unlike};
-ghost use Rattle.mixture_plans.specs.Rows.{weights-used, rows_of, plans-in};
-ghost use Rattle.mixture_plans.specs.Refusal.{Counted, count-outside, each-checks, mixture-refusal, mixture-ask-refusal};
+ghost use Rattle.mixture_plans.specs.Rows.{weights_used, rows_of, plans_in};
+ghost use Rattle.mixture_plans.specs.Refusal.{Counted, count_outside, each_checks, mixture_refusal, mixture_ask_refusal};
 
 use model::{Ask, Head, Question, SCALE, limits};
 use numbers::lesser;
@@ -26,7 +26,7 @@ pub struct Mixture {
 
 // The first refusal that fits a mixture and a question, with a workspace of the given length.
 pub fn ask_refusal(mixture: Mixture, question: Question, row: &[u32], room: usize) -> u32
-    ensures { result ≡ mixture-ask-refusal mixture question row.now room }
+    ensures { result ≡ mixture_ask_refusal mixture question row.now room }
 {
     let refused = mixture_refusal(mixture, row);
     if refused != 0 {
@@ -46,7 +46,7 @@ pub fn ask_refusal(mixture: Mixture, question: Question, row: &[u32], room: usiz
 
 // The first refusal that fits a mixture, whatever is asked of it.
 pub fn mixture_refusal(mixture: Mixture, row: &[u32]) -> u32
-    ensures { result ≡ mixture-refusal mixture row.now }
+    ensures { result ≡ mixture_refusal mixture row.now }
 {
     if count_is_outside(mixture.count) {
         return 18;
@@ -62,7 +62,7 @@ pub fn mixture_refusal(mixture: Mixture, row: &[u32]) -> u32
 }
 
 pub fn count_is_outside(count: usize) -> bool
-    ensures { result ≡ count-outside count }
+    ensures { result ≡ count_outside count }
 {
     if count == 0 {
         return true;
@@ -73,7 +73,7 @@ pub fn count_is_outside(count: usize) -> bool
 // The earliest refused plan's own number.
 fn each_refusal(mixture: Mixture, row: &[u32]) -> u32
     requires { Counted mixture }
-    ensures { result ≡ first (each-checks (rows_of mixture row.now)) }
+    ensures { result ≡ first (each_checks (rows_of mixture row.now)) }
 {
     let heads = mixture.heads;
     let count = mixture.count;
@@ -100,7 +100,7 @@ fn each_refusal(mixture: Mixture, row: &[u32]) -> u32
 fn row_end(head: Head, start: usize, length: usize, last: bool) -> usize
     requires head_accepted { HeadAccepted head }
     requires start_in_bounds { start ≤ length }
-    ensures { result ≡ cond last length (start + min (row-length head) (length - start)) }
+    ensures { result ≡ cond last length (start + min (row_length head) (length - start)) }
 {
     if last {
         return length;
@@ -111,8 +111,8 @@ fn row_end(head: Head, start: usize, length: usize, last: bool) -> usize
 // Whether some plan is unlike the first elsewhere than in its chances. As long as they are alike, their rows have one length.
 fn is_unlike(mixture: Mixture, row: &[u32]) -> bool
     requires counted { Counted mixture }
-    requires row_value { first (each-checks (rows_of mixture row.now)) ≡ 0 }
-    ensures { result ≡ unlike (plans-in mixture row.now) }
+    requires row_value { first (each_checks (rows_of mixture row.now)) ≡ 0 }
+    ensures { result ≡ unlike (plans_in mixture row.now) }
 {
     let heads = mixture.heads;
     let count = mixture.count;
@@ -167,7 +167,7 @@ fn same_numbers(row: &[u32], a: usize, b: usize, count: usize) -> bool
 
 fn weights_add(mixture: Mixture) -> bool
     requires { Counted mixture }
-    ensures { result ≡ eqb (total (weights-used mixture)) S }
+    ensures { result ≡ eqb (total (weights_used mixture)) S }
 {
     let weights = mixture.weights;
     let count = mixture.count;

@@ -8,124 +8,124 @@ use native.Mathlib.Numerals.{one-add}
 use native.Mathlib.Omega.{arith}
 use lib.ListN.{length, get_or}
 use Rattle.model.specs.Scale.{S}
-use Rattle.model.specs.Sums.{sum, total, one-to, count}
+use Rattle.model.specs.Sums.{sum, total, one_to, count}
 use Rattle.model.specs.Plan.{Plan, nth}
-use Rattle.model.specs.History.{Event, no-claim, claim, tail-claim, History, events, histories, event-weight, history-weight, is-claim, claims}
-use Rattle.model.specs.Exact.{weight-of}
-use Rattle.model.proofs.SumLaws.{total-append, total-map-times, total-map-plus, total-one-to, sum-times, sum-nth-times, pow-two-more}
+use Rattle.model.specs.History.{Event, no_claim, claim, tail_claim, History, events, histories, event_weight, history_weight, is_claim, claims}
+use Rattle.model.specs.Exact.{weight_of}
+use Rattle.model.proofs.SumLaws.{total_append, total_map_times, total_map_plus, total_one_to, sum_times, sum_nth_times, pow_two_more}
 
 -- a plan with these severities, tail and chances; the weight of histories does not look at the opening and the income
-abbrev plan-with : List ℕ → ℕ → List ℕ → Plan
-plan-with F tail Ps = record { opening = 0; income = 0; chances = Ps; severity = F; tail = tail }
+abbrev plan_with : List ℕ → ℕ → List ℕ → Plan
+plan_with F tail Ps = record { opening = 0; income = 0; chances = Ps; severity = F; tail = tail }
 
 -- the weight over histories of a condition on them
 abbrev pub weigh : List ℕ → ℕ → List ℕ → (History → Bool) → ℕ
-weigh F tail Ps = weight-of (plan-with F tail Ps)
+weigh F tail Ps = weight_of (plan_with F tail Ps)
 
-pub weight_is : (p : Plan) (C : History → Bool) → weight-of p C ≡ weigh p.severity p.tail p.chances C
-unfolding weight-of history-weight
+pub weight_is : (p : Plan) (C : History → Bool) → weight_of p C ≡ weigh p.severity p.tail p.chances C
+unfolding weight_of history_weight
 weight_is p C = refl
 
-total-flatMap :
+total_flatMap :
     {A B : Type 0} (f : B → ℕ) (g : A → List B) (xs : List A) → total (map f (flat_map g xs)) ≡ total (map (λ x. total (map f (g x))) xs)
 unfolding flat_map total
-total-flatMap f g [] = refl
-total-flatMap f g (x ∷ xs) =
-    ap total (map-append f (g x) (flat_map g xs)) ∙ total-append (map f (g x)) (map f (flat_map g xs)) ∙ ap (λ (y : ℕ). total (map f (g x)) + y) (total-flatMap f g xs)
+total_flatMap f g [] = refl
+total_flatMap f g (x ∷ xs) =
+    ap total (map-append f (g x) (flat_map g xs)) ∙ total_append (map f (g x)) (map f (flat_map g xs)) ∙ ap (λ (y : ℕ). total (map f (g x)) + y) (total_flatMap f g xs)
 
-pub claims-quiet : (h : History) → claims (no-claim ∷ h) ≡ claims h
-unfolding claims count is-claim
-claims-quiet h = zero-add (claims h)
+pub claims_quiet : (h : History) → claims (no_claim ∷ h) ≡ claims h
+unfolding claims count is_claim
+claims_quiet h = zero-add (claims h)
 
-pub claims-more : (e : Event) (h : History) → is-claim e ≡ true → claims (e ∷ h) ≡ suc (claims h)
+pub claims_more : (e : Event) (h : History) → is_claim e ≡ true → claims (e ∷ h) ≡ suc (claims h)
 unfolding claims count
-claims-more e h c = rw c (one-add (claims h))
+claims_more e h c = rw c (one-add (claims h))
 
-cond-times : (b : Bool) (k a : ℕ) → cond b (k * a) 0 ≡ k * cond b a 0
-cond-times true k a = refl
-cond-times false k a = sym (mul-zero k)
+cond_times : (b : Bool) (k a : ℕ) → cond b (k * a) 0 ≡ k * cond b a 0
+cond_times true k a = refl
+cond_times false k a = sym (mul-zero k)
 
-total-zeros : {A : Type 0} (xs : List A) → total (map (λ x. 0) xs) ≡ 0
+total_zeros : {A : Type 0} (xs : List A) → total (map (λ x. 0) xs) ≡ 0
 unfolding total
-total-zeros [] = refl
-total-zeros (x ∷ xs) = omega (arith, total-zeros xs)
+total_zeros [] = refl
+total_zeros (x ∷ xs) = omega (arith, total_zeros xs)
 
 module _ (F : List ℕ) (tail : ℕ) where
-  pub weigh-end : (C : History → Bool) → weigh F tail [] C ≡ cond (C []) 1 0
-  unfolding weight-of histories history-weight zip_with total
-  weigh-end C = add-zero _
+  pub weigh_end : (C : History → Bool) → weigh F tail [] C ≡ cond (C []) 1 0
+  unfolding weight_of histories history_weight zip_with total
+  weigh_end C = add-zero _
 
   -- the first month split off, for any condition
-  pub weigh-month :
+  pub weigh_month :
       (P : ℕ) (Ps : List ℕ) (C : History → Bool) →
-      weigh F tail (P ∷ Ps) C ≡ total (map (λ e. event-weight F tail P e * weigh F tail Ps (λ h. C (e ∷ h))) (events (length F)))
-  unfolding weight-of histories history-weight zip_with
-  weigh-month P Ps C =
-      total-flatMap kept (λ e. map (λ h. e ∷ h) shorter) (events (length F))
+      weigh F tail (P ∷ Ps) C ≡ total (map (λ e. event_weight F tail P e * weigh F tail Ps (λ h. C (e ∷ h))) (events (length F)))
+  unfolding weight_of histories history_weight zip_with
+  weigh_month P Ps C =
+      total_flatMap kept (λ e. map (λ h. e ∷ h) shorter) (events (length F))
       ∙ ap (λ (f : Event → ℕ). total (map f (events (length F)))) (fun_ext first)
     where
       shorter : List History
       shorter = histories (length F) (length Ps)
 
       kept : History → ℕ
-      kept h = cond (C h) (history-weight (plan-with F tail (P ∷ Ps)) h) 0
+      kept h = cond (C h) (history_weight (plan_with F tail (P ∷ Ps)) h) 0
 
       later : Event → History → ℕ
-      later e h = cond (C (e ∷ h)) (history-weight (plan-with F tail Ps) h) 0
+      later e h = cond (C (e ∷ h)) (history_weight (plan_with F tail Ps) h) 0
 
-      first : (e : Event) → total (map kept (map (λ h. e ∷ h) shorter)) ≡ event-weight F tail P e * total (map (later e) shorter)
+      first : (e : Event) → total (map kept (map (λ h. e ∷ h) shorter)) ≡ event_weight F tail P e * total (map (later e) shorter)
       first e =
           ap total (map-map kept (λ h. e ∷ h) shorter)
-          ∙ ap (λ (f : History → ℕ). total (map f shorter)) (fun_ext (λ h. cond-times (C (e ∷ h)) (event-weight F tail P e) (history-weight (plan-with F tail Ps) h)))
-          ∙ total-map-times (event-weight F tail P e) (later e) shorter
+          ∙ ap (λ (f : History → ℕ). total (map f shorter)) (fun_ext (λ h. cond_times (C (e ∷ h)) (event_weight F tail P e) (history_weight (plan_with F tail Ps) h)))
+          ∙ total_map_times (event_weight F tail P e) (later e) shorter
 
   -- the same by what the first month brings
-  pub weigh-split :
+  pub weigh_split :
       (P : ℕ) (Ps : List ℕ) (C : History → Bool) →
       weigh F tail (P ∷ Ps) C
-      ≡ (S - P) * S * weigh F tail Ps (λ h. C (no-claim ∷ h))
-      + (P * tail * weigh F tail Ps (λ h. C (tail-claim ∷ h))
+      ≡ (S - P) * S * weigh F tail Ps (λ h. C (no_claim ∷ h))
+      + (P * tail * weigh F tail Ps (λ h. C (tail_claim ∷ h))
       + P * sum (length F) (λ x. nth F x * weigh F tail Ps (λ h. C (claim x ∷ h))))
-  unfolding events event-weight total
-  weigh-split P Ps C =
-      weigh-month P Ps C
-      ∙ ap (λ (y : ℕ). (S - P) * S * weigh F tail Ps (λ h. C (no-claim ∷ h)) + (P * tail * weigh F tail Ps (λ h. C (tail-claim ∷ h)) + y)) claims
+  unfolding events event_weight total
+  weigh_split P Ps C =
+      weigh_month P Ps C
+      ∙ ap (λ (y : ℕ). (S - P) * S * weigh F tail Ps (λ h. C (no_claim ∷ h)) + (P * tail * weigh F tail Ps (λ h. C (tail_claim ∷ h)) + y)) claims
     where
       one : Event → ℕ
-      one e = event-weight F tail P e * weigh F tail Ps (λ h. C (e ∷ h))
+      one e = event_weight F tail P e * weigh F tail Ps (λ h. C (e ∷ h))
 
-      claims : total (map one (map claim (one-to (length F)))) ≡ P * sum (length F) (λ x. nth F x * weigh F tail Ps (λ h. C (claim x ∷ h)))
+      claims : total (map one (map claim (one_to (length F)))) ≡ P * sum (length F) (λ x. nth F x * weigh F tail Ps (λ h. C (claim x ∷ h)))
       claims =
-          ap total (map-map one claim (one-to (length F)))
-          ∙ total-one-to (length F) (λ x. one (claim x))
+          ap total (map-map one claim (one_to (length F)))
+          ∙ total_one_to (length F) (λ x. one (claim x))
           ∙ ap (λ (f : ℕ → ℕ). sum (length F) f) (fun_ext (λ x. mul_assoc P (nth F x) (weigh F tail Ps (λ h. C (claim x ∷ h)))))
-          ∙ sum-times (length F) P (λ x. nth F x * weigh F tail Ps (λ h. C (claim x ∷ h)))
+          ∙ sum_times (length F) P (λ x. nth F x * weigh F tail Ps (λ h. C (claim x ∷ h)))
 
   -- nothing keeps a condition that never holds
-  pub weigh-none : (Ps : List ℕ) → weigh F tail Ps (λ h. false) ≡ 0
-  unfolding weight-of
-  weigh-none Ps = total-zeros (histories (length F) (length Ps))
+  pub weigh_none : (Ps : List ℕ) → weigh F tail Ps (λ h. false) ≡ 0
+  unfolding weight_of
+  weigh_none Ps = total_zeros (histories (length F) (length Ps))
 
   -- conditions that agree on every history of so many months
-  pub weigh-same :
+  pub weigh_same :
       (Ps : List ℕ) (C D : History → Bool) → ((h : History) → length h ≡ length Ps → C h ≡ D h) → weigh F tail Ps C ≡ weigh F tail Ps D
-  weigh-same [] C D same = weigh-end C ∙ ap (λ (b : Bool). cond b 1 0) (same [] refl) ∙ sym (weigh-end D)
-  weigh-same (P ∷ Ps) C D same =
-      weigh-month P Ps C
-      ∙ ap (λ (f : Event → ℕ). total (map (λ e. event-weight F tail P e * f e) (events (length F))))
-      (fun_ext (λ e. weigh-same Ps (λ h. C (e ∷ h)) (λ h. D (e ∷ h)) (λ h l. same (e ∷ h) (ap suc l))))
-      ∙ sym (weigh-month P Ps D)
+  weigh_same [] C D same = weigh_end C ∙ ap (λ (b : Bool). cond b 1 0) (same [] refl) ∙ sym (weigh_end D)
+  weigh_same (P ∷ Ps) C D same =
+      weigh_month P Ps C
+      ∙ ap (λ (f : Event → ℕ). total (map (λ e. event_weight F tail P e * f e) (events (length F))))
+      (fun_ext (λ e. weigh_same Ps (λ h. C (e ∷ h)) (λ h. D (e ∷ h)) (λ h l. same (e ∷ h) (ap suc l))))
+      ∙ sym (weigh_month P Ps D)
 
   -- the histories that keep a condition, split by another
-  pub weigh-either :
+  pub weigh_either :
       (Ps : List ℕ) (C D : History → Bool) → weigh F tail Ps (λ h. C h && not (D h)) + weigh F tail Ps (λ h. C h && D h) ≡ weigh F tail Ps C
-  unfolding weight-of
-  weigh-either Ps C D =
-      total-map-plus (λ h. cond (C h && not (D h)) (w h) 0) (λ h. cond (C h && D h) (w h) 0) (histories (length F) (length Ps))
+  unfolding weight_of
+  weigh_either Ps C D =
+      total_map_plus (λ h. cond (C h && not (D h)) (w h) 0) (λ h. cond (C h && D h) (w h) 0) (histories (length F) (length Ps))
       ∙ ap (λ (f : History → ℕ). total (map f (histories (length F) (length Ps)))) (fun_ext (λ h. go (C h) (D h) (w h)))
     where
       w : History → ℕ
-      w = history-weight (plan-with F tail Ps)
+      w = history_weight (plan_with F tail Ps)
 
       go : (c d : Bool) (a : ℕ) → cond (c && not d) a 0 + cond (c && d) a 0 ≡ cond c a 0
       go true true a = zero-add a
@@ -133,8 +133,8 @@ module _ (F : List ℕ) (tail : ℕ) where
       go false d a = refl
 
   -- a claim of any size, over included, weighs its month's chance times S
-  pub claims-weigh : total F + tail ≡ S → (P w : ℕ) → P * tail * w + P * (total F * w) ≡ P * (S * w)
-  claims-weigh hF P w =
+  pub claims_weigh : total F + tail ≡ S → (P w : ℕ) → P * tail * w + P * (total F * w) ≡ P * (S * w)
+  claims_weigh hF P w =
       omega (
         arith,
         mul_assoc P tail w,
@@ -143,15 +143,15 @@ module _ (F : List ℕ) (tail : ℕ) where
       )
 
   -- "All histories together weigh S^(2n)."
-  pub weigh-all :
+  pub weigh_all :
       total F + tail ≡ S → (Ps : List ℕ) → ((i : ℕ) → get_or Ps i 0 ≤ S) → weigh F tail Ps (λ h. true) ≡ S ^ (2 * length Ps)
-  weigh-all hF [] h = weigh-end (λ h. true) ∙ sym (pow-zero S)
-  weigh-all hF (P ∷ Ps) h =
-      weigh-split P Ps (λ h. true)
-      ∙ ap (λ (y : ℕ). (S - P) * S * w + (P * tail * w + P * y)) (sum-nth-times F w)
+  weigh_all hF [] h = weigh_end (λ h. true) ∙ sym (pow-zero S)
+  weigh_all hF (P ∷ Ps) h =
+      weigh_split P Ps (λ h. true)
+      ∙ ap (λ (y : ℕ). (S - P) * S * w + (P * tail * w + P * y)) (sum_nth_times F w)
       ∙ whole
-      ∙ ap (λ (y : ℕ). S * (S * y)) (weigh-all hF Ps (λ i. h (suc i)))
-      ∙ sym (pow-two-more S (length Ps))
+      ∙ ap (λ (y : ℕ). S * (S * y)) (weigh_all hF Ps (λ i. h (suc i)))
+      ∙ sym (pow_two_more S (length Ps))
     where
       w : ℕ
       w = weigh F tail Ps (λ h. true)
@@ -161,7 +161,7 @@ module _ (F : List ℕ) (tail : ℕ) where
           omega (
             arith,
             mul_assoc (S - P) S w,
-            claims-weigh hF P w,
+            claims_weigh hF P w,
             add-mul (S - P) P (S * w),
             ap (λ (y : ℕ). y * (S * w)) (sub-add_cancel (h 0)),
           )

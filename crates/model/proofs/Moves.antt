@@ -8,22 +8,22 @@ use lib.ListN.{length, get_or}
 use Rattle.model.specs.declared.Rounding.{Rounding}
 use Rattle.model.specs.Scale.{S, quotient}
 use Rattle.model.specs.Sums.{total}
-use Rattle.model.specs.MonthRule.{Row, Month, Rule, claim-sum, month, exact-month, values}
-use Rattle.model.specs.CountRow.{one-before, count-month, exact-count-month, after-months}
-use Rattle.model.specs.Sensitivity.{distance, chances-apart}
+use Rattle.model.specs.MonthRule.{Row, Month, Rule, claim_sum, month, exact_month, values}
+use Rattle.model.specs.CountRow.{one_before, count_month, exact_count_month, after_months}
+use Rattle.model.specs.Sensitivity.{distance, chances_apart}
 use Rattle.model.proofs.Distances.{distance_is, apart_more, apart_none}
-use Rattle.model.proofs.Quotients.{quotient_le, quotient-moves}
-use Rattle.model.proofs.Month.{scale-positive, square-positive, claim-sum-le, claim-sum-bound, mixture-le, mixture-keeps}
-use Rattle.model.proofs.Values.{values-rel-pair}
-use Rattle.model.proofs.Counts.{before-rel}
+use Rattle.model.proofs.Quotients.{quotient_le, quotient_moves}
+use Rattle.model.proofs.Month.{scale_positive, square_positive, claim_sum_le, claim_sum_bound, mixture_le, mixture_keeps}
+use Rattle.model.proofs.Values.{values_rel_pair}
+use Rattle.model.proofs.Counts.{before_rel}
 
 -- That a number is at most g parts of D above another, which is at most S such parts.
 pub record Near (g D a a' : ℕ) : Type 0 where
   pub apart : a ≤ a' + g * D
   pub fits : a' ≤ S * D
 
-pub near-nothing : (g D : ℕ) → Near g D 0 0
-near-nothing g D = record { apart = zero-le; fits = zero-le }
+pub near_nothing : (g D : ℕ) → Near g D 0 0
+near_nothing g D = record { apart = zero-le; fits = zero-le }
 
 -- so many times as much, in parts that are so many times as large
 pub near_times : {g D a a' : ℕ} (k : ℕ) → Near g D a a' → Near g (k * D) (k * a) (k * a')
@@ -34,17 +34,17 @@ near_times {g} {D} {a} {a'} k n =
     }
 
 -- a quotient by the parts, rounded either way
-pub near-quotient : (round : Rounding) {g a a' : ℕ} (D : ℕ) → 0 < D → Near g D a a' → Near g 1 (quotient round a D) (quotient round a' D)
-near-quotient round {g} {a} {a'} D some n =
+pub near_quotient : (round : Rounding) {g a a' : ℕ} (D : ℕ) → 0 < D → Near g D a a' → Near g 1 (quotient round a D) (quotient round a' D)
+near_quotient round {g} {a} {a'} D some n =
     record {
-      apart = rw mul-one (quotient-moves round a a' D g some (omega (arith, n.apart, mul_comm D g)));
+      apart = rw mul-one (quotient_moves round a a' D g some (omega (arith, n.apart, mul_comm D g)));
       fits = rw mul-one (quotient_le round a' D S some (omega (arith, n.fits, mul_comm D S)));
     }
 
 -- A mixture of two numbers by parts of S moves with its chance by at most what that moves by, for each part of the larger number.
-mixture-moves :
+mixture_moves :
     (P P' a b B : ℕ) → P ≤ S → P' ≤ S → a ≤ B → b ≤ B → (S - P) * a + P * b ≤ (S - P') * a + P' * b + distance P P' * B
-mixture-moves P P' a b B hP hP' ha hb =
+mixture_moves P P' a b B hP hP' ha hb =
     omega (
       arith,
       simp add-mul at (mul-le-mul_right a quiet),
@@ -62,20 +62,20 @@ mixture-moves P P' a b B hP hP' ha hb =
     claimed = omega arith
 
 -- The law of one month: a mixture of numbers that are near each other moves by what its chance does, and keeps income what these were apart.
-pub mixture-near :
+pub mixture_near :
     {g D a b a' b' : ℕ} (P P' : ℕ) → P ≤ S → P' ≤ S → Near g D a a' → Near g D b b' →
     Near (distance P P' + g) (S * D) ((S - P) * a + P * b) ((S - P') * a' + P' * b')
-mixture-near {g} {D} {a} {b} {a'} {b'} P P' hP hP' na nb =
+mixture_near {g} {D} {a} {b} {a'} {b'} P P' hP hP' na nb =
     record {
       apart =
           omega (
             arith,
-            mixture-keeps P a b a' b' (g * D) hP na.apart nb.apart,
-            mixture-moves P P' a' b' (S * D) hP hP' na.fits nb.fits,
+            mixture_keeps P a b a' b' (g * D) hP na.apart nb.apart,
+            mixture_moves P P' a' b' (S * D) hP hP' na.fits nb.fits,
             add-mul (distance P P') g (S * D),
             mul_left_comm S g D,
           );
-      fits = mixture-le P' a' b' (S * D) hP' na.fits nb.fits;
+      fits = mixture_le P' a' b' (S * D) hP' na.fits nb.fits;
     }
 
 -- That a month of the month rule does so, from rows in parts of D to a row in parts of D'.
@@ -85,41 +85,41 @@ Moving m D D' =
     (s : ℕ) → Near (distance P P' + g) D' (m P X Y s) (m P' X' Y' s)
 
 module _ (income : ℕ) (F : List ℕ) (hF : total F ≤ S) where
-  claim-sum-near : (D : ℕ) (Y Y' : Row) (g : ℕ) → ((s : ℕ) → Near g D (Y s) (Y' s)) → (s : ℕ) → Near g (S * D) (claim-sum F Y s) (claim-sum F Y' s)
-  claim-sum-near D Y Y' g h s =
+  claim_sum_near : (D : ℕ) (Y Y' : Row) (g : ℕ) → ((s : ℕ) → Near g D (Y s) (Y' s)) → (s : ℕ) → Near g (S * D) (claim_sum F Y s) (claim_sum F Y' s)
+  claim_sum_near D Y Y' g h s =
       record {
-        apart = omega (arith, claim-sum-le F hF Y Y' (g * D) (λ r. (h r).apart) s, mul_left_comm S g D);
-        fits = le_trans (claim-sum-bound F Y' (S * D) s (λ r l. (h r).fits)) (mul-le-mul_right (S * D) hF);
+        apart = omega (arith, claim_sum_le F hF Y Y' (g * D) (λ r. (h r).apart) s, mul_left_comm S g D);
+        fits = le_trans (claim_sum_bound F Y' (S * D) s (λ r l. (h r).fits)) (mul-le-mul_right (S * D) hF);
       }
 
   -- the exact month at any scale …
-  pub exact-moving : (D : ℕ) → Moving (exact-month income F) D (S * (S * D))
-  unfolding Moving exact-month
-  exact-moving D P P' hP hP' X Y X' Y' g hX hY s =
+  pub exact_moving : (D : ℕ) → Moving (exact_month income F) D (S * (S * D))
+  unfolding Moving exact_month
+  exact_moving D P P' hP hP' X Y X' Y' g hX hY s =
       rw (mul_assoc (S - P) S (X (s + income)), mul_assoc (S - P') S (X' (s + income)))
-      (mixture-near P P' hP hP' (near_times S (hX (s + income))) (claim-sum-near D Y Y' g hY (s + income)))
+      (mixture_near P P' hP hP' (near_times S (hX (s + income))) (claim_sum_near D Y Y' g hY (s + income)))
 
   -- … and the rounded month, in parts of S before and after
-  pub rounded-moving : (round : Rounding) → Moving (month round income F) 1 1
+  pub rounded_moving : (round : Rounding) → Moving (month round income F) 1 1
   unfolding Moving month
-  rounded-moving round P P' hP hP' X Y X' Y' g hX hY s =
-      near-quotient round (S * S) square-positive
-      (rw (ap (λ (n : ℕ). S * n) (mul-one S)) at (exact-moving 1 P P' hP hP' X Y X' Y' g hX hY s))
+  rounded_moving round P P' hP hP' X Y X' Y' g hX hY s =
+      near_quotient round (S * S) square_positive
+      (rw (ap (λ (n : ℕ). S * n) (mul-one S)) at (exact_moving 1 P P' hP hP' X Y X' Y' g hX hY s))
 
 -- So all months move a value by at most the sum of what their chances move by.
-pub values-move :
+pub values_move :
     (m : Month) (D : ℕ → ℕ) → ((n : ℕ) → Moving m (D n) (D (suc n))) →
     (q : Rule) (last last' : ℕ → Row) (g : ℕ) → ((k s : ℕ) → Near g (D 0) (last k s) (last' k s)) →
     (Ps Ps' : List ℕ) → length Ps ≡ length Ps' → ((i : ℕ) → get_or Ps i 0 ≤ S) → ((i : ℕ) → get_or Ps' i 0 ≤ S) →
-    (k s : ℕ) → Near (chances-apart Ps Ps' + g) (D (length Ps)) (values m q last Ps k s) (values m q last' Ps' k s)
+    (k s : ℕ) → Near (chances_apart Ps Ps' + g) (D (length Ps)) (values m q last Ps k s) (values m q last' Ps' k s)
 unfolding Moving
-values-move m D moving q last last' g hl Ps Ps' e hP hP' =
-    values-rel-pair (λ Qs Qs' a a'. Near (chances-apart Qs Qs' + g) (D (length Qs)) a a') (λ P P'. (P ≤ S) × (P' ≤ S)) m m q last last'
-    (λ Qs Qs'. near-nothing (chances-apart Qs Qs' + g) (D (length Qs)))
+values_move m D moving q last last' g hl Ps Ps' e hP hP' =
+    values_rel_pair (λ Qs Qs' a a'. Near (chances_apart Qs Qs' + g) (D (length Qs)) a a') (λ P P'. (P ≤ S) × (P' ≤ S)) m m q last last'
+    (λ Qs Qs'. near_nothing (chances_apart Qs Qs' + g) (D (length Qs)))
     (λ k s. rw (apart_none, zero-add g) (hl k s))
     (λ P P' Qs Qs' fit X Y X' Y' hx hy s.
-    rw (apart_more P P' Qs Qs', add_assoc (distance P P') (chances-apart Qs Qs') g)
-    (moving (length Qs) P P' fit.0 fit.1 X Y X' Y' (chances-apart Qs Qs' + g) hx hy s))
+    rw (apart_more P P' Qs Qs', add_assoc (distance P P') (chances_apart Qs Qs') g)
+    (moving (length Qs) P P' fit.0 fit.1 X Y X' Y' (chances_apart Qs Qs' + g) hx hy s))
     Ps Ps' e (λ i. (hP i, hP' i))
 
 -- The same of a month of the count row, …
@@ -127,44 +127,44 @@ unfoldable pub CountMoving : (ℕ → Row → Row) → ℕ → ℕ → Type 0
 CountMoving m D D' =
     (P P' : ℕ) → P ≤ S → P' ≤ S → (X X' : Row) (g : ℕ) → ((k : ℕ) → Near g D (X k) (X' k)) → (k : ℕ) → Near (distance P P' + g) D' (m P X k) (m P' X' k)
 
-count-parts-near :
+count_parts_near :
     (D P P' : ℕ) → P ≤ S → P' ≤ S → (X X' : Row) (g : ℕ) → ((k : ℕ) → Near g D (X k) (X' k)) →
-    (k : ℕ) → Near (distance P P' + g) (S * D) (P * one-before X k + (S - P) * X k) (P' * one-before X' k + (S - P') * X' k)
-count-parts-near D P P' hP hP' X X' g h k =
-    rw (add_comm (P * one-before X k) ((S - P) * X k), add_comm (P' * one-before X' k) ((S - P') * X' k))
-    (mixture-near P P' hP hP' (h k) (before-rel (Near g D) (near-nothing g D) X X' h k))
+    (k : ℕ) → Near (distance P P' + g) (S * D) (P * one_before X k + (S - P) * X k) (P' * one_before X' k + (S - P') * X' k)
+count_parts_near D P P' hP hP' X X' g h k =
+    rw (add_comm (P * one_before X k) ((S - P) * X k), add_comm (P' * one_before X' k) ((S - P') * X' k))
+    (mixture_near P P' hP hP' (h k) (before_rel (Near g D) (near_nothing g D) X X' h k))
 
-pub exact-count-moving : (D : ℕ) → CountMoving exact-count-month D (S * (S * D))
-unfolding CountMoving exact-count-month
-exact-count-moving D P P' hP hP' X X' g h k =
-    rw (mul_comm (P * one-before X k + (S - P) * X k) S, mul_comm (P' * one-before X' k + (S - P') * X' k) S)
-    (near_times S (count-parts-near D P P' hP hP' X X' g h k))
+pub exact_count_moving : (D : ℕ) → CountMoving exact_count_month D (S * (S * D))
+unfolding CountMoving exact_count_month
+exact_count_moving D P P' hP hP' X X' g h k =
+    rw (mul_comm (P * one_before X k + (S - P) * X k) S, mul_comm (P' * one_before X' k + (S - P') * X' k) S)
+    (near_times S (count_parts_near D P P' hP hP' X X' g h k))
 
-pub rounded-count-moving : (round : Rounding) → CountMoving (count-month round) 1 1
-unfolding CountMoving count-month
-rounded-count-moving round P P' hP hP' X X' g h k =
-    near-quotient round S scale-positive (rw (mul-one S) at (count-parts-near 1 P P' hP hP' X X' g h k))
+pub rounded_count_moving : (round : Rounding) → CountMoving (count_month round) 1 1
+unfolding CountMoving count_month
+rounded_count_moving round P P' hP hP' X X' g h k =
+    near_quotient round S scale_positive (rw (mul-one S) at (count_parts_near 1 P P' hP hP' X X' g h k))
 
 -- … and of all its months, …
-pub after-months-move :
+pub after_months_move :
     (m : ℕ → Row → Row) (D : ℕ → ℕ) → ((n : ℕ) → CountMoving m (D n) (D (suc n))) →
     (Ps Ps' : List ℕ) → length Ps ≡ length Ps' → ((i : ℕ) → get_or Ps i 0 ≤ S) → ((i : ℕ) → get_or Ps' i 0 ≤ S) →
     (n : ℕ) (X X' : Row) (g : ℕ) → ((k : ℕ) → Near g (D n) (X k) (X' k)) →
-    (k : ℕ) → Near (chances-apart Ps Ps' + g) (D (n + length Ps)) (after-months m Ps X k) (after-months m Ps' X' k)
-unfolding after-months CountMoving
-after-months-move m D moving [] [] e hP hP' n X X' g h k = rw (apart_none, zero-add g, add-zero n) (h k)
-after-months-move m D moving [] (P' ∷ Ps') e hP hP' n X X' g h k = absurd (omega arith)
-after-months-move m D moving (P ∷ Ps) [] e hP hP' n X X' g h k = absurd (omega arith)
-after-months-move m D moving (P ∷ Ps) (P' ∷ Ps') e hP hP' n X X' g h k =
+    (k : ℕ) → Near (chances_apart Ps Ps' + g) (D (n + length Ps)) (after_months m Ps X k) (after_months m Ps' X' k)
+unfolding after_months CountMoving
+after_months_move m D moving [] [] e hP hP' n X X' g h k = rw (apart_none, zero-add g, add-zero n) (h k)
+after_months_move m D moving [] (P' ∷ Ps') e hP hP' n X X' g h k = absurd (omega arith)
+after_months_move m D moving (P ∷ Ps) [] e hP hP' n X X' g h k = absurd (omega arith)
+after_months_move m D moving (P ∷ Ps) (P' ∷ Ps') e hP hP' n X X' g h k =
     rw (sums, add-suc n (length Ps), ← suc-add n (length Ps))
-    (after-months-move m D moving Ps Ps' (omega arith) (λ i. hP (suc i)) (λ i. hP' (suc i)) (suc n) (m P X) (m P' X') (distance P P' + g)
+    (after_months_move m D moving Ps Ps' (omega arith) (λ i. hP (suc i)) (λ i. hP' (suc i)) (suc n) (m P X) (m P' X') (distance P P' + g)
     (moving n P P' (hP 0) (hP' 0) X X' g h) k)
   where
-    sums : chances-apart (P ∷ Ps) (P' ∷ Ps') + g ≡ chances-apart Ps Ps' + (distance P P' + g)
+    sums : chances_apart (P ∷ Ps) (P' ∷ Ps') + g ≡ chances_apart Ps Ps' + (distance P P' + g)
     sums = omega (arith, apart_more P P' Ps Ps')
 
 -- … and of the row before a ruin, where no claim leaves nothing.
-pub ruin-moving : (P P' w : ℕ) → P ≤ S → P' ≤ S → w ≤ S → Near (distance P P') S (P * w) (P' * w)
-ruin-moving P P' w hP hP' fits =
+pub ruin_moving : (P P' w : ℕ) → P ≤ S → P' ≤ S → w ≤ S → Near (distance P P') S (P * w) (P' * w)
+ruin_moving P P' w hP hP' fits =
     let same : Near 0 1 w w = record { apart = omega arith; fits = rw mul-one fits } in
-    simp (mul-zero, zero-add, add-zero, mul-one) at (mixture-near P P' hP hP' (near-nothing 0 1) same)
+    simp (mul-zero, zero-add, add-zero, mul-one) at (mixture_near P P' hP hP' (near_nothing 0 1) same)

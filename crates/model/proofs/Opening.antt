@@ -11,67 +11,67 @@ use Rattle.model.specs.declared.Question.TheVariants.{High, Low}
 use Rattle.model.specs.Scale.{S}
 use Rattle.model.specs.Sums.{total, all}
 use Rattle.model.specs.Plan.{Plan}
-use Rattle.model.specs.History.{History, histories, history-weight, surplus-path, at_least, at_most}
-use Rattle.model.specs.Exact.{path-from, survives, keeps, weight-of, exact}
-use Rattle.model.specs.MonthRule.{Month, month, kept, values, value, rule-of, last_of, claims-of, opening-row, opening-allowed}
+use Rattle.model.specs.History.{History, histories, history_weight, surplus_path, at_least, at_most}
+use Rattle.model.specs.Exact.{path_from, survives, keeps, weight_of, exact}
+use Rattle.model.specs.MonthRule.{Month, month, kept, values, value, rule_of, last_of, claims_of, opening_row, opening_allowed}
 use Rattle.model.specs.Bounds.{bound}
-use Rattle.model.proofs.Histories.{weight_is, weigh-none}
+use Rattle.model.proofs.Histories.{weight_is, weigh_none}
 
 -- Where the question allows the opening, the answer is V_0(u) …
-pub value-allowed :
-    (one-month : Month) (p : Plan) (q : Question) → opening-allowed q p.opening ≡ true →
-    value one-month p q ≡ opening-row one-month p q p.opening
+pub value_allowed :
+    (one_month : Month) (p : Plan) (q : Question) → opening_allowed q p.opening ≡ true →
+    value one_month p q ≡ opening_row one_month p q p.opening
 unfolding value kept
-value-allowed one-month p q e = rw e
+value_allowed one_month p q e = rw e
 
 -- … and where it does not, 0.
-pub value-forbidden : (one-month : Month) (p : Plan) (q : Question) → opening-allowed q p.opening ≡ false → value one-month p q ≡ 0
+pub value_forbidden : (one_month : Month) (p : Plan) (q : Question) → opening_allowed q p.opening ≡ false → value one_month p q ≡ 0
 unfolding value kept
-value-forbidden one-month p q e = rw e
+value_forbidden one_month p q e = rw e
 
 -- Where u is above L no history keeps income the condition of high, with no months too.
-pub none-keeps : (income L u : ℕ) → L < u → (h : History) → keeps income (High L) u h ≡ false
+pub none_keeps : (income L u : ℕ) → L < u → (h : History) → keeps income (High L) u h ≡ false
 unfolding keeps
-none-keeps income L u l h = ap (λ (b : Bool). b && survives income u h && all (at_most L) (path-from income u h)) (lt-leb u L l)
+none_keeps income L u l h = ap (λ (b : Bool). b && survives income u h && all (at_most L) (path_from income u h)) (lt-leb u L l)
 
 -- "For L at least u, nothing moves": the bounds are V_0(u), and the condition is that of the months alone.
-pub high-unmoved :
+pub high_unmoved :
     (p : Plan) (L : ℕ) → p.opening ≤ L →
-    ((round : Rounding) → bound round p (High L) ≡ opening-row (month round p.income p.severity) p (High L) p.opening)
-    × (exact p (High L) ≡ weight-of p (λ h. survives p.income p.opening h && all (at_most L) (path-from p.income p.opening h)))
-unfolding bound opening-allowed exact keeps weight-of
-high-unmoved p L l = (
-  λ round. value-allowed (month round p.income p.severity) p (High L) (le-leb p.opening L l),
+    ((round : Rounding) → bound round p (High L) ≡ opening_row (month round p.income p.severity) p (High L) p.opening)
+    × (exact p (High L) ≡ weight_of p (λ h. survives p.income p.opening h && all (at_most L) (path_from p.income p.opening h)))
+unfolding bound opening_allowed exact keeps weight_of
+high_unmoved p L l = (
+  λ round. value_allowed (month round p.income p.severity) p (High L) (le-leb p.opening L l),
   rw (le-leb p.opening L l),
 )
 
 -- Where u is above L the exact weight and both bounds are 0.
-pub high-exceeded : (p : Plan) (L : ℕ) → L < p.opening → (exact p (High L) ≡ 0) × ((round : Rounding) → bound round p (High L) ≡ 0)
-unfolding bound opening-allowed exact
-high-exceeded p L l = (
-  weight_is p (keeps p.income (High L) p.opening) ∙ rw (fun_ext (none-keeps p.income L p.opening l)) (weigh-none p.severity p.tail p.chances),
-  λ round. value-forbidden (month round p.income p.severity) p (High L) (lt-leb p.opening L l),
+pub high_exceeded : (p : Plan) (L : ℕ) → L < p.opening → (exact p (High L) ≡ 0) × ((round : Rounding) → bound round p (High L) ≡ 0)
+unfolding bound opening_allowed exact
+high_exceeded p L l = (
+  weight_is p (keeps p.income (High L) p.opening) ∙ rw (fun_ext (none_keeps p.income L p.opening l)) (weigh_none p.severity p.tail p.chances),
+  λ round. value_forbidden (month round p.income p.severity) p (High L) (lt-leb p.opening L l),
 )
 
 -- "U_0 does not count" in low: neither in the bounds nor in the condition.
-pub low-unmoved :
+pub low_unmoved :
     (p : Plan) (L : ℕ) →
-    ((round : Rounding) → bound round p (Low L) ≡ opening-row (month round p.income p.severity) p (Low L) p.opening)
-    × (exact p (Low L) ≡ weight-of p (λ h. survives p.income p.opening h && all (at_least L) (path-from p.income p.opening h)))
-unfolding bound opening-allowed exact keeps weight-of
-low-unmoved p L = (λ round. value-allowed (month round p.income p.severity) p (Low L) refl, refl)
+    ((round : Rounding) → bound round p (Low L) ≡ opening_row (month round p.income p.severity) p (Low L) p.opening)
+    × (exact p (Low L) ≡ weight_of p (λ h. survives p.income p.opening h && all (at_least L) (path_from p.income p.opening h)))
+unfolding bound opening_allowed exact keeps weight_of
+low_unmoved p L = (λ round. value_allowed (month round p.income p.severity) p (Low L) refl, refl)
 
 -- With no months low holds "for every L" …
-pub low-no-months : (p : Plan) → p.chances ≡ [] → (L : ℕ) → (exact p (Low L) ≡ 1) × ((round : Rounding) → bound round p (Low L) ≡ S)
-unfolding total histories history-weight zip_with all surplus-path survives keeps weight-of exact values rule-of last_of claims-of
-low-no-months p none L = (rw none, λ round. rw ((low-unmoved p L).0 round, none))
+pub low_no_months : (p : Plan) → p.chances ≡ [] → (L : ℕ) → (exact p (Low L) ≡ 1) × ((round : Rounding) → bound round p (Low L) ≡ S)
+unfolding total histories history_weight zip_with all surplus_path survives keeps weight_of exact values rule_of last_of claims_of
+low_no_months p none L = (rw none, λ round. rw ((low_unmoved p L).0 round, none))
 
 -- … and high exactly if u is at most L.
-pub high-no-months :
+pub high_no_months :
     (p : Plan) → p.chances ≡ [] → (L : ℕ) →
     (exact p (High L) ≡ cond (leb p.opening L) 1 0) × ((round : Rounding) → bound round p (High L) ≡ cond (leb p.opening L) S 0)
-unfolding total histories history-weight zip_with all surplus-path survives keeps weight-of exact kept values value rule-of last_of claims-of opening-allowed bound
-high-no-months p none L = (rw none (weighs (leb p.opening L)), λ round. rw none)
+unfolding total histories history_weight zip_with all surplus_path survives keeps weight_of exact kept values value rule_of last_of claims_of opening_allowed bound
+high_no_months p none L = (rw none (weighs (leb p.opening L)), λ round. rw none)
   where
     weighs : (b : Bool) → cond (b && true && true) 1 0 + 0 ≡ cond b 1 0
     weighs true = refl

@@ -48,20 +48,20 @@ upwards =
           omega (arith, div-add-mod (x + (d - 1)) d, mod-lt (x + (d - 1)) some, mul_comm ((x + (d - 1)) / d) d);
     }
 
-pub times-right : {rel : ℕ → ℕ → Type 0} {round : Rounding} (d : Direction rel round) (k : ℕ) {a b : ℕ} → rel a b → rel (a * k) (b * k)
-times-right d k {a} {b} r = rw (mul_comm a k, mul_comm b k) (d.times k r)
+pub times_right : {rel : ℕ → ℕ → Type 0} {round : Rounding} (d : Direction rel round) (k : ℕ) {a b : ℕ} → rel a b → rel (a * k) (b * k)
+times_right d k {a} {b} r = rw (mul_comm a k, mul_comm b k) (d.times k r)
 
 -- one division adds at most one part to the gap
-pub quotient-gap : (a b d h : ℕ) → 0 < d → b ≤ a + d * h → quotient Up b d ≤ quotient Down a d + (h + 1)
+pub quotient_gap : (a b d h : ℕ) → 0 < d → b ≤ a + d * h → quotient Up b d ≤ quotient Down a d + (h + 1)
 unfolding quotient
-quotient-gap a b d h some l =
+quotient_gap a b d h some l =
     quotient_le Up b d (a / d + (h + 1)) some
     (omega (arith, lt-mul-div-succ a some, mul-add d (a / d) 1, mul-add d (a / d) (h + 1), mul-add d h 1))
 
 -- a whole number of divisors is not rounded
-pub quotient-whole : (a b d h : ℕ) → 0 < d → b ≤ a + h → quotient Up (d * b) d ≤ quotient Down (d * a) d + h
+pub quotient_whole : (a b d h : ℕ) → 0 < d → b ≤ a + h → quotient Up (d * b) d ≤ quotient Down (d * a) d + h
 unfolding quotient
-quotient-whole a b d h some l =
+quotient_whole a b d h some l =
     rw (mul-div_right a some) (le_trans (quotient_le Up (d * b) d b some (le_refl (d * b))) l)
 
 -- the quotient of a larger number is no smaller
@@ -69,22 +69,22 @@ rises : (x y d : ℕ) → 0 < d → x ≤ y → x / d ≤ y / d
 rises x y d some l = (le-div_iff_mul-le some).1 (le_trans (div-mul-le_self x d) l)
 
 -- what is a whole number of divisors is divided apart from the rest
-pub quotient-add : (round : Rounding) (x y d : ℕ) → 0 < d → quotient round (x * d + y) d ≡ x + quotient round y d
+pub quotient_add : (round : Rounding) (x y d : ℕ) → 0 < d → quotient round (x * d + y) d ≡ x + quotient round y d
 unfolding quotient
-quotient-add Down x y d some = mul-add-div_right some x y
-quotient-add Up x y d some = rw (add_assoc (x * d) y (d - 1)) (mul-add-div_right some x (y + (d - 1)))
+quotient_add Down x y d some = mul-add-div_right some x y
+quotient_add Up x y d some = rw (add_assoc (x * d) y (d - 1)) (mul-add-div_right some x (y + (d - 1)))
 
 -- a number that is at most another and k divisors has a quotient of at most the other's and k
-pub quotient-moves : (round : Rounding) (x y d k : ℕ) → 0 < d → x ≤ y + d * k → quotient round x d ≤ quotient round y d + k
+pub quotient_moves : (round : Rounding) (x y d k : ℕ) → 0 < d → x ≤ y + d * k → quotient round x d ≤ quotient round y d + k
 unfolding quotient
-quotient-moves Down x y d k some l = rw (← add-mul-div_left y k some) (rises x (y + d * k) d some l)
-quotient-moves Up x y d k some l = rw (← add-mul-div_left (y + (d - 1)) k some) (rises (x + (d - 1)) (y + (d - 1) + d * k) d some (omega arith))
+quotient_moves Down x y d k some l = rw (← add-mul-div_left y k some) (rises x (y + d * k) d some l)
+quotient_moves Up x y d k some l = rw (← add-mul-div_left (y + (d - 1)) k some) (rises (x + (d - 1)) (y + (d - 1) + d * k) d some (omega arith))
 
 -- a quotient by d divided by e, rounded the same way, is the quotient by d × e rounded once
-pub quotient-twice : (round : Rounding) (z d e : ℕ) → 0 < d → 0 < e → quotient round (quotient round z d) e ≡ quotient round z (d * e)
+pub quotient_twice : (round : Rounding) (z d e : ℕ) → 0 < d → 0 < e → quotient round (quotient round z d) e ≡ quotient round z (d * e)
 unfolding quotient
-quotient-twice Down z d e some some' = div-div-eq-div-mul z d e
-quotient-twice Up z d e some some' =
+quotient_twice Down z d e some some' = div-div-eq-div-mul z d e
+quotient_twice Up z d e some some' =
     ap (λ (n : ℕ). n / e) (add_comm ((z + (d - 1)) / d) (e - 1) ∙ sym (mul-add-div_right some (e - 1) (z + (d - 1))) ∙ ap (λ (n : ℕ). n / d) less_one)
     ∙ div-div-eq-div-mul (z + (d * e - 1)) d e
   where

@@ -4,84 +4,84 @@ use Rattle.model.specs.declared.Question.{Question}
 use Rattle.model.specs.declared.Question.TheVariants.{Survive, Both, High, Low}
 use Rattle.model.specs.Sums.{total, all}
 use Rattle.model.specs.Plan.{Plan, horizon, sizes}
-use Rattle.model.specs.History.{History, Surplus, known, surplus-path, at_least, at_most, at_level, has-deficit, is_lost, claims, histories, history-weight}
+use Rattle.model.specs.History.{History, Surplus, known, surplus_path, at_least, at_most, at_level, has_deficit, is_lost, claims, histories, history_weight}
 
 -- U_1 to U_n where the fund opens at u
-abbrev pub path-from : ℕ → ℕ → History → List Surplus
-path-from income u h = surplus-path income (known (pos u)) h
+abbrev pub path_from : ℕ → ℕ → History → List Surplus
+path_from income u h = surplus_path income (known (pos u)) h
 
 -- "survive: U_t ≥ 1 for t = 1 to n", as "Ruin is U_t ≤ 0 at some t from 1 on"
 unfoldable pub survives : ℕ → ℕ → History → Bool
-survives income u h = all (at_least 1) (path-from income u h)
+survives income u h = all (at_least 1) (path_from income u h)
 
 -- The condition of each question, as its line in the list of four says it. Document 02 besides: "high L holds only if u is at most L as well, with no months
 -- too"; U_0 does not count in low.
 unfoldable pub keeps : ℕ → Question → ℕ → History → Bool
 keeps income Survive u h = survives income u h
 keeps income (Both k) u h = survives income u h && eqb (claims h) k
-keeps income (High L) u h = leb u L && survives income u h && all (at_most L) (path-from income u h)
-keeps income (Low L) u h = survives income u h && all (at_least L) (path-from income u h)
+keeps income (High L) u h = leb u L && survives income u h && all (at_most L) (path_from income u h)
+keeps income (Low L) u h = survives income u h && all (at_least L) (path_from income u h)
 
 -- "exactly k claims in the n months, ruin or not"
-unfoldable pub has-claims : ℕ → History → Bool
-has-claims k h = eqb (claims h) k
+unfoldable pub has_claims : ℕ → History → Bool
+has_claims k h = eqb (claims h) k
 
 -- Up to month t − 1 the fund lasts, U_1 to U_{t−1} at least 1, and U_{t−1} and U_t pass a test; U_{t−1} is the opening where t = 1. Months are counted from 1,
 -- so U_t has the index t − 1 in the path; a month that the path does not have leads to a surplus of 1.
-unfoldable pub lasts-then : (Surplus → Surplus → Bool) → ℕ → ℕ → ℕ → History → Bool
-lasts-then test income t u h =
-    all (at_least 1) (take (t - 1) (path-from income u h))
-    && test (get_or (known (pos u) ∷ path-from income u h) (t - 1) (known (pos 1))) (get_or (path-from income u h) (t - 1) (known (pos 1)))
+unfoldable pub lasts_then : (Surplus → Surplus → Bool) → ℕ → ℕ → ℕ → History → Bool
+lasts_then test income t u h =
+    all (at_least 1) (take (t - 1) (path_from income u h))
+    && test (get_or (known (pos u) ∷ path_from income u h) (t - 1) (known (pos 1))) (get_or (path_from income u h) (t - 1) (known (pos 1)))
 
 -- Document 02: the "first ruin falls" in month t, U_t ≤ 0. An over claim in month t is such a ruin.
 abbrev pub ruins : Surplus → Surplus → Bool
 ruins before after = at_most 0 after
 
-unfoldable pub first-ruin : ℕ → ℕ → ℕ → History → Bool
-first-ruin income t u h = lasts-then ruins income t u h
+unfoldable pub first_ruin : ℕ → ℕ → ℕ → History → Bool
+first_ruin income t u h = lasts_then ruins income t u h
 
 -- Document 02: "ruin first comes in month t, from level i, at a fund level of minus j". The claim's size is then known, so that it is one of the table.
-abbrev pub leaves-deficit : ℕ → ℕ → Surplus → Surplus → Bool
-leaves-deficit i j before after = at_level i before && has-deficit j after
+abbrev pub leaves_deficit : ℕ → ℕ → Surplus → Surplus → Bool
+leaves_deficit i j before after = at_level i before && has_deficit j after
 
-unfoldable pub first-deficit : ℕ → ℕ → ℕ → ℕ → ℕ → History → Bool
-first-deficit income t i j u h = lasts-then (leaves-deficit i j) income t u h
+unfoldable pub first_deficit : ℕ → ℕ → ℕ → ℕ → ℕ → History → Bool
+first_deficit income t i j u h = lasts_then (leaves_deficit i j) income t u h
 
 -- first ruin in month t by an over claim, which leaves no known deficit
 abbrev pub loses : Surplus → Surplus → Bool
 loses before after = is_lost after
 
-unfoldable pub first-loss : ℕ → ℕ → ℕ → History → Bool
-first-loss income t u h = lasts-then loses income t u h
+unfoldable pub first_loss : ℕ → ℕ → ℕ → History → Bool
+first_loss income t u h = lasts_then loses income t u h
 
 -- U_{t−1} = i before month t, which the fund lasts to
-unfoldable pub has-level : ℕ → ℕ → ℕ → ℕ → History → Bool
-has-level income t i u h = lasts-then (λ before after. at_level i before) income t u h
+unfoldable pub has_level : ℕ → ℕ → ℕ → ℕ → History → Bool
+has_level income t i u h = lasts_then (λ before after. at_level i before) income t u h
 
 -- "the weight of the histories that keep the condition"
-unfoldable pub weight-of : Plan → (History → Bool) → ℕ
-weight-of p condition = total (map (λ h. cond (condition h) (history-weight p h) 0) (histories (sizes p) (horizon p)))
+unfoldable pub weight_of : Plan → (History → Bool) → ℕ
+weight_of p condition = total (map (λ h. cond (condition h) (history_weight p h) 0) (histories (sizes p) (horizon p)))
 
 -- "W is the sum of the weights of all histories that keep it, taken from the plan's numbers alone."
 unfoldable pub exact : Plan → Question → ℕ
-exact p q = weight-of p (keeps p.income q p.opening)
+exact p q = weight_of p (keeps p.income q p.opening)
 
 -- W at a place k of the count row
-unfoldable pub exact-count : Plan → ℕ → ℕ
-exact-count p k = weight-of p (has-claims k)
+unfoldable pub exact_count : Plan → ℕ → ℕ
+exact_count p k = weight_of p (has_claims k)
 
 -- "The exact chance is the weight of the histories whose first ruin falls there": W of a month's line `fails t`
-unfoldable pub exact-ruin : Plan → ℕ → ℕ
-exact-ruin p t = weight-of p (first-ruin p.income t p.opening)
+unfoldable pub exact_ruin : Plan → ℕ → ℕ
+exact_ruin p t = weight_of p (first_ruin p.income t p.opening)
 
 -- Document 02: "survive to t − 1 at level i, then a claim of size i + j + c", the joint distribution of source document 004, Theorem 2
-unfoldable pub exact-deficit : Plan → ℕ → ℕ → ℕ → ℕ
-exact-deficit p t i j = weight-of p (first-deficit p.income t i j p.opening)
+unfoldable pub exact_deficit : Plan → ℕ → ℕ → ℕ → ℕ
+exact_deficit p t i j = weight_of p (first_deficit p.income t i j p.opening)
 
 -- "over claims … stay in the fails lines alone"
-unfoldable pub exact-loss : Plan → ℕ → ℕ
-exact-loss p t = weight-of p (first-loss p.income t p.opening)
+unfoldable pub exact_loss : Plan → ℕ → ℕ
+exact_loss p t = weight_of p (first_loss p.income t p.opening)
 
 -- the weight of the histories that come to level i before month t
-unfoldable pub exact-level : Plan → ℕ → ℕ → ℕ
-exact-level p t i = weight-of p (has-level p.income t i p.opening)
+unfoldable pub exact_level : Plan → ℕ → ℕ → ℕ
+exact_level p t i = weight_of p (has_level p.income t i p.opening)

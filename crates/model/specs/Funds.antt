@@ -4,11 +4,11 @@ use Rattle.model.specs.declared.Head.{Head}
 use Rattle.model.specs.declared.Question.{Question}
 use Rattle.model.specs.declared.Question.TheVariants.{Survive, Both, High, Low}
 use Rattle.model.specs.Scale.{S}
-use Rattle.model.specs.Plan.{Plan, plan-of, horizon}
+use Rattle.model.specs.Plan.{Plan, plan_of, horizon}
 use Rattle.model.specs.Exact.{exact}
-use Rattle.model.specs.FirstClaim.{first-claim-survival}
+use Rattle.model.specs.FirstClaim.{first_claim_survival}
 use Rattle.model.specs.Bounds.{lower, upper}
-use Rattle.model.specs.Refusal.{plan-refusal}
+use Rattle.model.specs.Refusal.{plan_refusal}
 
 -- a fund with a question and its bounds: those that document 01 gives, for u 5 with high 4 those of document 02; the two with an income of 2 are ours
 pub record Fund : Type 0 where
@@ -49,7 +49,7 @@ starred =
 
 -- the published recursion has the same weight where the question is survival and the income 1: it "is for c = 1 alone"
 unfoldable pub published : Plan → Question → Bool
-published p Survive = not (eqb p.income 1) || eqb (first-claim-survival p) (exact p Survive)
+published p Survive = not (eqb p.income 1) || eqb (first_claim_survival p) (exact p Survive)
 published p (Both k) = true
 published p (High L) = true
 published p (Low L) = true
@@ -57,7 +57,7 @@ published p (Low L) = true
 -- a fund is accepted, its bounds are those given, and the weight of its histories lies between them
 unfoldable pub right : Fund → Bool
 right f =
-    eqb (plan-refusal f.head f.row) 0
+    eqb (plan_refusal f.head f.row) 0
     && eqb (lower p f.question) f.low
     && eqb (upper p f.question) f.high
     && leb (f.low * S ^ (2 * horizon p)) (exact p f.question * S)
@@ -65,4 +65,4 @@ right f =
     && published p f.question
   where
     p : Plan
-    p = plan-of f.head f.row
+    p = plan_of f.head f.row

@@ -2,21 +2,21 @@
 use Rattle.std.specs.Prelude.{ℕ, zero, suc, ◌*◌, ◌-◌, Bool, true, false, ◌&&◌, leb, eqb, ℤ, pos, negsuc, ◌+ℤ◌, ◌-ℤ◌}
 use mathlib.Core.List.{List, [], ◌∷◌, map, flat_map, foldr, zip_with}
 use Rattle.model.specs.Scale.{S}
-use Rattle.model.specs.Sums.{one-to, count}
+use Rattle.model.specs.Sums.{one_to, count}
 use Rattle.model.specs.Plan.{Plan, nth}
 
--- "A history gives each month no claim, one size, or over": `tail-claim` is the over claim.
+-- "A history gives each month no claim, one size, or over": `tail_claim` is the over claim.
 pub data Event : Type 0 where
-  no-claim : Event
+  no_claim : Event
   claim : ℕ → Event
-  tail-claim : Event
+  tail_claim : Event
 
 abbrev pub History : Type 0
 History = List Event
 
 -- what a month can bring in a plan of m sizes
 unfoldable pub events : ℕ → List Event
-events m = no-claim ∷ tail-claim ∷ map claim (one-to m)
+events m = no_claim ∷ tail_claim ∷ map claim (one_to m)
 
 -- all histories of n months in a plan of m sizes; "With no months there is one history"
 unfoldable pub histories : ℕ → ℕ → List History
@@ -24,14 +24,14 @@ histories m zero = [] ∷ []
 histories m (suc n) = flat_map (λ e. map (λ h. e ∷ h) (histories m n)) (events m)
 
 -- "(S − P_t) × S for no claim, P_t × F_x for size x, P_t × over for over"
-unfoldable pub event-weight : List ℕ → ℕ → ℕ → Event → ℕ
-event-weight severity tail P no-claim = (S - P) * S
-event-weight severity tail P (claim x) = P * nth severity x
-event-weight severity tail P tail-claim = P * tail
+unfoldable pub event_weight : List ℕ → ℕ → ℕ → Event → ℕ
+event_weight severity tail P no_claim = (S - P) * S
+event_weight severity tail P (claim x) = P * nth severity x
+event_weight severity tail P tail_claim = P * tail
 
 -- "Its weight is the product over months": of the months' weights, 1 with no months
-unfoldable pub history-weight : Plan → History → ℕ
-history-weight p h = foldr ◌*◌ 1 (zip_with (event-weight p.severity p.tail) p.chances h)
+unfoldable pub history_weight : Plan → History → ℕ
+history_weight p h = foldr ◌*◌ 1 (zip_with (event_weight p.severity p.tail) p.chances h)
 
 -- The surplus U_t, document 01's level, is a whole number, which can be 0 or below. After an over claim it is not known: the claim's size is
 -- not, and it ruined.
@@ -40,16 +40,16 @@ pub data Surplus : Type 0 where
   lost : Surplus
 
 -- Document 02: "U_t = U_{t-1} + c less the claim"
-unfoldable pub next-surplus : ℕ → Surplus → Event → Surplus
-next-surplus income (known z) no-claim = known (z +ℤ pos income)
-next-surplus income (known z) (claim x) = known (z +ℤ pos income -ℤ pos x)
-next-surplus income (known z) tail-claim = lost
-next-surplus income lost e = lost
+unfoldable pub next_surplus : ℕ → Surplus → Event → Surplus
+next_surplus income (known z) no_claim = known (z +ℤ pos income)
+next_surplus income (known z) (claim x) = known (z +ℤ pos income -ℤ pos x)
+next_surplus income (known z) tail_claim = lost
+next_surplus income lost e = lost
 
 -- U_1 to U_n of a history, from U_0
-unfoldable pub surplus-path : ℕ → Surplus → History → List Surplus
-surplus-path income before [] = []
-surplus-path income before (e ∷ h) = next-surplus income before e ∷ surplus-path income (next-surplus income before e) h
+unfoldable pub surplus_path : ℕ → Surplus → History → List Surplus
+surplus_path income before [] = []
+surplus_path income before (e ∷ h) = next_surplus income before e ∷ surplus_path income (next_surplus income before e) h
 
 -- U_t ≥ L; "An over claim … ruins in its month", so the surplus after it reaches nothing
 unfoldable pub at_least : ℕ → Surplus → Bool
@@ -70,10 +70,10 @@ at_level i (known (negsuc z)) = false
 at_level i lost = false
 
 -- Document 02: "a fund level of minus j", U_t = −j; "over claims have no known deficit". The whole number negsuc z is −(z + 1).
-unfoldable pub has-deficit : ℕ → Surplus → Bool
-has-deficit j (known (pos z)) = eqb z 0 && eqb j 0
-has-deficit j (known (negsuc z)) = eqb (suc z) j
-has-deficit j lost = false
+unfoldable pub has_deficit : ℕ → Surplus → Bool
+has_deficit j (known (pos z)) = eqb z 0 && eqb j 0
+has_deficit j (known (negsuc z)) = eqb (suc z) j
+has_deficit j lost = false
 
 -- an over claim has come
 unfoldable pub is_lost : Surplus → Bool
@@ -81,11 +81,11 @@ is_lost (known z) = false
 is_lost lost = true
 
 -- "An over claim counts as one claim"
-unfoldable pub is-claim : Event → Bool
-is-claim no-claim = false
-is-claim (claim x) = true
-is-claim tail-claim = true
+unfoldable pub is_claim : Event → Bool
+is_claim no_claim = false
+is_claim (claim x) = true
+is_claim tail_claim = true
 
 -- the number of claims N of a history
 unfoldable pub claims : History → ℕ
-claims h = count is-claim h
+claims h = count is_claim h

@@ -2,13 +2,13 @@
 use Rattle.std.specs.Prelude.{ℕ, cond, List, ◌++◌, eqb, drop, replicate}
 
 -- "Reading and writing fill the needed part": what was lent after a call with this refusal's number, 0 if there is none, that puts new numbers there
-unfoldable pub filled-after : ℕ → ℕ → List ℕ → List ℕ → List ℕ
-filled-after number needed new lent = cond (eqb number 0) (new ++ drop needed lent) lent
+unfoldable pub filled_after : ℕ → ℕ → List ℕ → List ℕ → List ℕ
+filled_after number needed new lent = cond (eqb number 0) (new ++ drop needed lent) lent
 
 -- the first n numbers are 0, and what lies past them is as it was
-abbrev pub zero-first : ℕ → List ℕ → List ℕ
-zero-first n xs = replicate n 0 ++ drop n xs
+abbrev pub zero_first : ℕ → List ℕ → List ℕ
+zero_first n xs = replicate n 0 ++ drop n xs
 
 -- "After an answered question the needed part of the desk is all zero." The workspace is document 01's desk.
-abbrev pub cleared-after : ℕ → ℕ → List ℕ → List ℕ
-cleared-after number needed workspace = filled-after number needed (replicate needed 0) workspace
+abbrev pub cleared_after : ℕ → ℕ → List ℕ → List ℕ
+cleared_after number needed workspace = filled_after number needed (replicate needed 0) workspace

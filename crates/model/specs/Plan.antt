@@ -24,12 +24,12 @@ nth xs zero = 0
 nth xs (suc i) = get_or xs i 0
 
 -- "a row of n + m + 1 numbers of 32 bits"
-abbrev pub row-length : Head → ℕ
-row-length h = h.months + h.sizes + 1
+abbrev pub row_length : Head → ℕ
+row_length h = h.months + h.sizes + 1
 
 -- "In memory a plan is a head (n, u, m) and a row of n + m + 1 numbers of 32 bits: chances, weights, over." The head has the income too.
-unfoldable pub plan-of : Head → List ℕ → Plan
-plan-of h row =
+unfoldable pub plan_of : Head → List ℕ → Plan
+plan_of h row =
     record {
       opening = h.opening;
       income = h.income;

@@ -4,7 +4,7 @@ use mathlib.Core.List.{List, zip_with}
 use Rattle.model.specs.Scale.{S}
 use Rattle.model.specs.Sums.{total}
 use Rattle.model.specs.Plan.{Plan, horizon}
-use Rattle.model.specs.Bounds.{live-months}
+use Rattle.model.specs.Bounds.{live_months}
 
 -- "two accepted plans that differ only in claim chances": the same months, opening, income, weights (so sizes too) and over
 pub record OnlyChancesDiffer (p p' : Plan) : Type 0 where
@@ -27,13 +27,13 @@ unfoldable pub distance : ℕ → ℕ → ℕ
 distance a b = max a b - min a b
 
 -- "the sum over months of the differences of the chances", month by month
-unfoldable pub chances-apart : List ℕ → List ℕ → ℕ
-chances-apart chances chances' = total (zip_with distance chances chances')
+unfoldable pub chances_apart : List ℕ → List ℕ → ℕ
+chances_apart chances chances' = total (zip_with distance chances chances')
 
 -- What two plans' answers to the same question keep to: their weights W and W' of histories, and their lower bounds low and low'. As in `Encloses`, the
 -- months that count are all of the plan's for a question and for a place of the count row, months 1 to t for ruin in month t.
 pub record Moves (p : Plan) (months months' : List ℕ) (W W' low low' : ℕ) : Type 0 where
   -- "the exact answers to the same question differ by at most the sum over months of the differences of the chances, in parts of S"
-  pub exact : distance (W * S) (W' * S) ≤ chances-apart months months' * S ^ (2 * horizon p)
+  pub exact : distance (W * S) (W' * S) ≤ chances_apart months months' * S ^ (2 * horizon p)
   -- "The lower bounds differ by at most that sum plus the larger of the two plans' numbers of months with a chance not zero."
-  pub lower : distance low low' ≤ chances-apart months months' + max (live-months months) (live-months months')
+  pub lower : distance low low' ≤ chances_apart months months' + max (live_months months) (live_months months')

@@ -8,5 +8,5 @@ use Rattle.model.specs.Scale.{S, quotient}
 unfoldable pub split_parts : Rounding → ℕ → ℕ → ℕ → ℕ → ℕ
 split_parts round P quiet A R = (S - P) * quiet + P * A + quotient round (P * R) S
 
-unfoldable pub split-month : Rounding → ℕ → ℕ → ℕ → ℕ → ℕ
-split-month round P quiet A R = quotient round (split_parts round P quiet A R) S
+unfoldable pub split_month : Rounding → ℕ → ℕ → ℕ → ℕ → ℕ
+split_month round P quiet A R = quotient round (split_parts round P quiet A R) S

@@ -7,8 +7,8 @@ sum zero f = 0
 sum (suc n) f = f 1 + sum n (λ x. f (suc x))
 
 -- f 0 + … + f n
-abbrev pub sum-from-0 : ℕ → (ℕ → ℕ) → ℕ
-sum-from-0 n f = f 0 + sum n f
+abbrev pub sum_from_0 : ℕ → (ℕ → ℕ) → ℕ
+sum_from_0 n f = f 0 + sum n f
 
 -- f 1 × … × f n
 unfoldable pub product : ℕ → (ℕ → ℕ) → ℕ
@@ -16,9 +16,9 @@ product zero f = 1
 product (suc n) f = f 1 * product n (λ x. f (suc x))
 
 -- the numbers 1 to n
-unfoldable pub one-to : ℕ → List ℕ
-one-to zero = []
-one-to (suc n) = 1 ∷ map suc (one-to n)
+unfoldable pub one_to : ℕ → List ℕ
+one_to zero = []
+one_to (suc n) = 1 ∷ map suc (one_to n)
 
 -- the sum of a list
 unfoldable pub total : List ℕ → ℕ
@@ -28,11 +28,11 @@ total (x ∷ xs) = x + total xs
 -- how many elements pass a test
 unfoldable pub count : {A : Type 0} → (A → Bool) → List A → ℕ
 count test [] = 0
-count test (x ∷ xs) = one-if (test x) + count test xs
+count test (x ∷ xs) = one_if (test x) + count test xs
   where
-    one-if : Bool → ℕ
-    one-if true = 1
-    one-if false = 0
+    one_if : Bool → ℕ
+    one_if true = 1
+    one_if false = 0
 
 -- whether every element passes a test
 unfoldable pub all : {A : Type 0} → (A → Bool) → List A → Bool

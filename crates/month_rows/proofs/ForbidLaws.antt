@@ -14,10 +14,10 @@ use Rattle.model.specs.MonthRule.{kept}
 use Rattle.month_rows.specs.Rows.{at, between}
 use Rattle.model.proofs.SumLaws.{below_or_not}
 
-pub getD-zeros : (n k : ℕ) → ◌≡◌ {A = ℕ} (get_or (replicate n 0) k 0) 0
-getD-zeros zero k = refl
-getD-zeros (suc n) zero = refl
-getD-zeros (suc n) (suc k) = getD-zeros n k
+pub getD_zeros : (n k : ℕ) → ◌≡◌ {A = ℕ} (get_or (replicate n 0) k 0) 0
+getD_zeros zero k = refl
+getD_zeros (suc n) zero = refl
+getD_zeros (suc n) (suc k) = getD_zeros n k
 
 -- what follows a list, by its distance
 pub get_d_past : (xs ys : List ℕ) (n k : ℕ) → length xs ≡ n → n ≤ k → get_or (xs ++ ys) k 0 ≡ get_or ys (k - n) 0
@@ -31,7 +31,7 @@ low_end n xs s = ⊎_elim before after (below_or_not s n)
     before : s < n → get_or (replicate n 0 ++ drop n xs) s 0 ≡ cond (leb n s) (get_or xs s 0) 0
     before l =
         rw (lt-leb n s l)
-        (get_or-append (replicate n 0) (drop n xs) 0 s (omega (arith, length-replicate {A = ℕ} n 0)) ∙ getD-zeros n s)
+        (get_or-append (replicate n 0) (drop n xs) 0 s (omega (arith, length-replicate {A = ℕ} n 0)) ∙ getD_zeros n s)
 
     after : n ≤ s → get_or (replicate n 0 ++ drop n xs) s 0 ≡ cond (leb n s) (get_or xs s 0) 0
     after l =
@@ -53,43 +53,43 @@ high_end n r xs h s = ⊎_elim before after (below_or_not s n)
         (get_or-append (take n xs) (replicate r 0) 0 s (omega (arith, count)) ∙ get_or-take n xs s 0 l)
 
     after : n ≤ s → get_or (take n xs ++ replicate r 0) s 0 ≡ cond (ltb s n) (get_or xs s 0) 0
-    after l = rw (le-ltb s n l) (get_d_past (take n xs) (replicate r 0) n s count l ∙ getD-zeros r (s - n))
+    after l = rw (le-ltb s n l) (get_d_past (take n xs) (replicate r 0) n s count l ∙ getD_zeros r (s - n))
 
 -- tests that agree inside a row keep the same of it
-kept-inside : (xs : List ℕ) (s : ℕ) (t u : Bool) → (s < length xs → t ≡ u) → cond t (get_or xs s 0) 0 ≡ cond u (get_or xs s 0) 0
-kept-inside xs s t u same = ⊎_elim (λ l. rw (same l)) (λ l. rw (get_or-eq_default xs 0 {n = s} l) (nothing t ∙ sym (nothing u))) (below_or_not s (length xs))
+kept_inside : (xs : List ℕ) (s : ℕ) (t u : Bool) → (s < length xs → t ≡ u) → cond t (get_or xs s 0) 0 ≡ cond u (get_or xs s 0) 0
+kept_inside xs s t u same = ⊎_elim (λ l. rw (same l)) (λ l. rw (get_or-eq_default xs 0 {n = s} l) (nothing t ∙ sym (nothing u))) (below_or_not s (length xs))
   where
     nothing : (t : Bool) → ◌≡◌ {A = ℕ} (cond t 0 0) 0
     nothing true = refl
     nothing false = refl
 
-leb-min : (low n s : ℕ) → s < n → leb (min low n) s ≡ leb low s
-leb-min low n s l =
+leb_min : (low n s : ℕ) → s < n → leb (min low n) s ≡ leb low s
+leb_min low n s l =
     ⊎_elim (λ b. lt-leb (min low n) s (omega arith) ∙ sym (lt-leb low s b)) (λ a. le-leb (min low n) s (omega arith) ∙ sym (le-leb low s a)) (below_or_not s low)
 
-ltb-min : (above n s : ℕ) → s < n → ltb s (min above n) ≡ ltb s above
-ltb-min above n s l =
+ltb_min : (above n s : ℕ) → s < n → ltb s (min above n) ≡ ltb s above
+ltb_min above n s l =
     ⊎_elim (λ b. lt-ltb s (min above n) (omega arith) ∙ sym (lt-ltb s above b)) (λ a. le-ltb s (min above n) (omega arith) ∙ sym (le-ltb s above a)) (below_or_not s above)
 
-kept-both : (a b : Bool) (v : ℕ) → cond b (cond a v 0) 0 ≡ cond (a && b) v 0
-kept-both true true v = refl
-kept-both true false v = refl
-kept-both false true v = refl
-kept-both false false v = refl
+kept_both : (a b : Bool) (v : ℕ) → cond b (cond a v 0) 0 ≡ cond (a && b) v 0
+kept_both true true v = refl
+kept_both true false v = refl
+kept_both false true v = refl
+kept_both false false v = refl
 
 -- the row after its low end was filled, and then its high end
-forbidden-at :
+forbidden_at :
     (xs ys : List ℕ) (low above : ℕ) → ys ≡ replicate (min low (length xs)) 0 ++ drop (min low (length xs)) xs → length ys ≡ length xs → (r : ℕ) →
     at (take (min above (length ys)) ys ++ replicate r 0) ≡ kept (between low above) (at xs)
 unfolding kept between
-forbidden-at xs ys low above e n r =
+forbidden_at xs ys low above e n r =
     fun_ext
     (λ s.
     high_end (min above (length ys)) r ys (omega arith) s
-    ∙ kept-inside ys s (ltb s (min above (length ys))) (ltb s above) (ltb-min above (length ys) s)
+    ∙ kept_inside ys s (ltb s (min above (length ys))) (ltb s above) (ltb_min above (length ys) s)
     ∙ ap (λ (v : ℕ). cond (ltb s above) v 0) (ap (λ (l : List ℕ). get_or l s 0) e ∙ low_end (min low (length xs)) xs s
-    ∙ kept-inside xs s (leb (min low (length xs)) s) (leb low s) (leb-min low (length xs) s))
-    ∙ kept-both (leb low s) (ltb s above) (get_or xs s 0))
+    ∙ kept_inside xs s (leb (min low (length xs)) s) (leb low s) (leb_min low (length xs) s))
+    ∙ kept_both (leb low s) (ltb s above) (get_or xs s 0))
 
 -- the same of the two parts as they are lent and come back
 pub forbidden :
@@ -105,4 +105,4 @@ forbidden xs front back low above first last ef el eg eb =
     let count : length ys ≡ length xs = length_front xs front first (ap length el ∙ length-replicate {A = ℕ} (length (take first xs)) 0) in
     let rest : post_of last (length ys - last) ys ≡ [] =
     drop_of_length-le (drop last ys) {i = length ys - last} (omega (arith, length-drop last ys)) in
-    rw (rest, append-nil, eg, eb) (forbidden-at xs ys low above filled count (length (mid_of last (length ys - last) ys)))
+    rw (rest, append-nil, eg, eb) (forbidden_at xs ys low above filled count (length (mid_of last (length ys - last) ys)))

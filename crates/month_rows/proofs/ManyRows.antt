@@ -18,9 +18,9 @@ use Rattle.model.specs.MonthRule.{Row, kept}
 use Rattle.month_rows.specs.declared.rows.Shape.{Shape}
 use Rattle.claims.specs.Values.{Parts}
 use Rattle.month_rows.specs.Rows.{at, between}
-use Rattle.month_rows.specs.Shapes.{row-with, values-in, RowsIn, allowed-places}
+use Rattle.month_rows.specs.Shapes.{row_with, values_in, RowsIn, allowed_places}
 use Rattle.model.proofs.SumLaws.{below_or_not}
-use Rattle.month_rows.proofs.RowLaws.{parts-part}
+use Rattle.month_rows.proofs.RowLaws.{parts_part}
 use Rattle.month_rows.proofs.ForbidLaws.{get_d_past}
 
 -- a row by its number in the list
@@ -31,16 +31,16 @@ rows_at width xs j = at (drop (j * width) xs)
 pub row_fits : (j count width : ℕ) → j < count → j * width + width ≤ count * width
 row_fits j count width l = omega (arith, mul-le-mul_right width l, suc-mul j width)
 
-pub row-before-row : (i j width s : ℕ) → i < j → s < width → i * width + s < j * width
-row-before-row i j width s l m = omega (arith, row_fits i j width l)
+pub row_before_row : (i j width s : ℕ) → i < j → s < width → i * width + s < j * width
+row_before_row i j width s l m = omega (arith, row_fits i j width l)
 
 -- the list with ys in the place of n elements from a on: before them, in them, after them
 module _ (xs ys : List ℕ) (a n : ℕ) (count : length ys ≡ n) (fits : a + n ≤ length xs) where
   front : length (take a xs) ≡ a
   front = length-take-le a xs (omega arith)
 
-  pub put-before : (k : ℕ) → k < a → get_or (put_mid a n xs ys) k 0 ≡ get_or xs k 0
-  put-before k l = get_or-append (take a xs) (ys ++ post_of a n xs) 0 k (omega (arith, front)) ∙ get_or-take a xs k 0 l
+  pub put_before : (k : ℕ) → k < a → get_or (put_mid a n xs ys) k 0 ≡ get_or xs k 0
+  put_before k l = get_or-append (take a xs) (ys ++ post_of a n xs) 0 k (omega (arith, front)) ∙ get_or-take a xs k 0 l
 
   pub put_in : (k : ℕ) → k < n → get_or (put_mid a n xs ys) (a + k) 0 ≡ get_or ys k 0
   put_in k l =
@@ -48,8 +48,8 @@ module _ (xs ys : List ℕ) (a n : ℕ) (count : length ys ≡ n) (fits : a + n 
       get_d_past (take a xs) (ys ++ post_of a n xs) a (a + k) front (omega arith)
       ∙ rw here (get_or-append ys (post_of a n xs) 0 k (omega arith))
 
-  pub put-after : (k : ℕ) → a + n ≤ k → get_or (put_mid a n xs ys) k 0 ≡ get_or xs k 0
-  put-after k l =
+  pub put_after : (k : ℕ) → a + n ≤ k → get_or (put_mid a n xs ys) k 0 ≡ get_or xs k 0
+  put_after k l =
       let whole : a + (n + (k - a - n)) ≡ k = omega arith in
       get_d_past (take a xs) (ys ++ post_of a n xs) a k front (omega arith)
       ∙ get_d_past ys (post_of a n xs) n (k - a) count (omega arith)
@@ -57,30 +57,30 @@ module _ (xs ys : List ℕ) (a n : ℕ) (count : length ys ≡ n) (fits : a + n 
       ∙ get_or-drop a xs (n + (k - a - n)) 0
       ∙ ap (λ (i : ℕ). get_or xs i 0) whole
 
-pub parts-append : (xs ys : List ℕ) → Parts xs → Parts ys → Parts (xs ++ ys)
-parts-append xs ys hx hy = record { each = go xs hx.each }
+pub parts_append : (xs ys : List ℕ) → Parts xs → Parts ys → Parts (xs ++ ys)
+parts_append xs ys hx hy = record { each = go xs hx.each }
   where
     go : (xs : List ℕ) → ((k : ℕ) → get_or xs k 0 ≤ S) → (k : ℕ) → get_or (xs ++ ys) k 0 ≤ S
     go [] h k = hy.each k
     go (x ∷ xs) h zero = h zero
     go (x ∷ xs) h (suc k) = go xs (λ i. h (suc i)) k
 
-parts-kept : (xs ys : List ℕ) (allowed : ℕ → Bool) → at ys ≡ kept allowed (at xs) → Parts xs → Parts ys
+parts_kept : (xs ys : List ℕ) (allowed : ℕ → Bool) → at ys ≡ kept allowed (at xs) → Parts xs → Parts ys
 unfolding kept
-parts-kept xs ys allowed e h = record { each = λ k. rw (ap (λ (row : Row). row k) e) (go (allowed k) (get_or xs k 0) (h.each k)) }
+parts_kept xs ys allowed e h = record { each = λ k. rw (ap (λ (row : Row). row k) e) (go (allowed k) (get_or xs k 0) (h.each k)) }
   where
     go : (t : Bool) (v : ℕ) → v ≤ S → cond t v 0 ≤ S
     go true v l = l
     go false v l = zero-le
 
-pub parts-put : (xs ys : List ℕ) (a n : ℕ) → Parts xs → Parts ys → Parts (put_mid a n xs ys)
-parts-put xs ys a n hx hy =
-    parts-append (take a xs) (ys ++ post_of a n xs) (parts-part xs 0 a hx)
-    (parts-append ys (post_of a n xs) hy (record { each = λ k. rw (get_or-drop n (drop a xs) k 0, get_or-drop a xs (n + k) 0) (hx.each (a + (n + k))) }))
+pub parts_put : (xs ys : List ℕ) (a n : ℕ) → Parts xs → Parts ys → Parts (put_mid a n xs ys)
+parts_put xs ys a n hx hy =
+    parts_append (take a xs) (ys ++ post_of a n xs) (parts_part xs 0 a hx)
+    (parts_append ys (post_of a n xs) hy (record { each = λ k. rw (get_or-drop n (drop a xs) k 0, get_or-drop a xs (n + k) 0) (hx.each (a + (n + k))) }))
 
 -- rows that were rewritten in place
-pub rows-in-again : (shape : Shape) (xs ys : List ℕ) → RowsIn shape xs → length ys ≡ length xs → Parts ys → RowsIn shape ys
-rows-in-again shape xs ys h same parts = record { some = h.some; income-some = h.income-some; size = same ∙ h.size; parts = parts }
+pub rows_in_again : (shape : Shape) (xs ys : List ℕ) → RowsIn shape xs → length ys ≡ length xs → Parts ys → RowsIn shape ys
+rows_in_again shape xs ys h same parts = record { some = h.some; income_some = h.income_some; size = same ∙ h.size; parts = parts }
 
 -- Rows forbidden one after the other, from the first: `done` of the rows passed, `rest` of the others.
 pub record Forbidding (old : List ℕ) (width first last : ℕ) (rows : List ℕ) (j : ℕ) : Type 0 where
@@ -89,23 +89,23 @@ pub record Forbidding (old : List ℕ) (width first last : ℕ) (rows : List ℕ
   pub done : (i : ℕ) → i < j → (s : ℕ) → s < width → rows_at width rows i s ≡ kept (between first last) (rows_at width old i) s
   pub rest : (k : ℕ) → j * width ≤ k → get_or rows k 0 ≡ get_or old k 0
 
-pub forbidding-start : (old : List ℕ) (width first last : ℕ) → Parts old → Forbidding old width first last old 0
-forbidding-start old width first last h =
+pub forbidding_start : (old : List ℕ) (width first last : ℕ) → Parts old → Forbidding old width first last old 0
+forbidding_start old width first last h =
     record { same_length = refl; parts = h; done = λ i l s m. absurd (omega arith); rest = λ k l. refl }
 
-forbidding-row :
+forbidding_row :
     (old : List ℕ) (count width first last : ℕ) → length old ≡ count * width →
     (rows row : List ℕ) (j : ℕ) → j < count → Forbidding old width first last rows j →
     length row ≡ length (mid_of (j * width) width rows) → at row ≡ kept (between first last) (at (mid_of (j * width) width rows)) →
     Forbidding old width first last (put_mid (j * width) width rows row) (j + 1)
 unfolding kept
-forbidding-row old count width first last whole rows row j l h same e =
+forbidding_row old count width first last whole rows row j l h same e =
     record {
       same_length = same_len_mid (j * width) width rows row same ∙ h.same_length;
-      parts = parts-put rows row (j * width) width h.parts (parts-kept (mid_of (j * width) width rows) row (between first last) e (parts-part rows (j * width) width h.parts));
+      parts = parts_put rows row (j * width) width h.parts (parts_kept (mid_of (j * width) width rows) row (between first last) e (parts_part rows (j * width) width h.parts));
       done =
           below_more (λ (i : ℕ). (s : ℕ) → s < width → rows_at width rows' i s ≡ kept (between first last) (rows_at width old i) s) j passed here;
-      rest = λ k m. put-after rows row (j * width) width n fits k (omega (arith, after)) ∙ h.rest k (omega (arith, after));
+      rest = λ k m. put_after rows row (j * width) width n fits k (omega (arith, after)) ∙ h.rest k (omega (arith, after));
     }
   where
     rows' : List ℕ
@@ -126,7 +126,7 @@ forbidding-row old count width first last whole rows row j l h same e =
     passed : (i : ℕ) → i < j → (s : ℕ) → s < width → rows_at width rows' i s ≡ kept (between first last) (rows_at width old i) s
     passed i b s m =
         get_or-drop (i * width) rows' s 0
-        ∙ put-before rows row (j * width) width n fits (i * width + s) (row-before-row i j width s b m)
+        ∙ put_before rows row (j * width) width n fits (i * width + s) (row_before_row i j width s b m)
         ∙ sym (get_or-drop (i * width) rows s 0)
         ∙ h.done i b s m
 
@@ -142,18 +142,18 @@ forbidding-row old count width first last whole rows row j l h same e =
         ∙ sym (get_or-drop (j * width) old s 0))
 
 -- the same of a part whose number of elements comes to the width
-pub forbidding-turn :
+pub forbidding_turn :
     (old : List ℕ) (count width first last : ℕ) → length old ≡ count * width →
     (rows row : List ℕ) (j n : ℕ) → n ≡ width → j < count → Forbidding old width first last rows j →
     length row ≡ length (mid_of (j * width) n rows) → at row ≡ kept (between first last) (at (mid_of (j * width) n rows)) →
     Forbidding old width first last (put_mid (j * width) n rows row) (j + 1)
-forbidding-turn old count width first last whole rows row j n en l h same e =
-    rw en (forbidding-row old count width first last whole rows row j l h (rw en at same) (rw en at e))
+forbidding_turn old count width first last whole rows row j n en l h same e =
+    rw en (forbidding_row old count width first last whole rows row j l h (rw en at same) (rw en at e))
 
 -- the places of the levels from low on and below above, where place 0 holds the level `top`
-between-places : (low above top s : ℕ) → s ≤ top → between (top + 1 - above) (top + 1 - low) (top - s) ≡ between low above s
+between_places : (low above top s : ℕ) → s ≤ top → between (top + 1 - above) (top + 1 - low) (top - s) ≡ between low above s
 unfolding between
-between-places low above top s l = ap₂ (λ (a b : Bool). a && b) first last ∙ and_comm (ltb s above) (leb low s)
+between_places low above top s l = ap₂ (λ (a b : Bool). a && b) first last ∙ and_comm (ltb s above) (leb low s)
   where
     first : leb (top + 1 - above) (top - s) ≡ ltb s above
     first =
@@ -172,23 +172,23 @@ between-places low above top s l = ap₂ (λ (a b : Bool). a && b) first last �
     and_comm false false = refl
 
 -- all rows forbidden, by the claims left
-pub forbidden-in :
+pub forbidden_in :
     (shape : Shape) (top : ℕ) (old rows : List ℕ) (first last j : ℕ) → shape.rows ≤ j →
     first ≡ top + 1 - shape.above → last ≡ top + 1 - shape.low → Forbidding old shape.width first last rows j →
-    (k : ℕ) → k < shape.rows → (i : ℕ) → i < shape.width → at (row-with shape rows k) i ≡ kept (allowed-places shape top) (at (row-with shape old k)) i
+    (k : ℕ) → k < shape.rows → (i : ℕ) → i < shape.width → at (row_with shape rows k) i ≡ kept (allowed_places shape top) (at (row_with shape old k)) i
 unfolding kept
-forbidden-in shape top old rows first last j all ef el h k l i m =
-    let same : between first last i ≡ allowed-places shape top i = rw (ef, el) in
+forbidden_in shape top old rows first last j all ef el h k l i m =
+    let same : between first last i ≡ allowed_places shape top i = rw (ef, el) in
     h.done (shape.rows - 1 - k) (omega arith) i m
-    ∙ ap (λ (b : Bool). cond b (at (row-with shape old k) i) 0) same
+    ∙ ap (λ (b : Bool). cond b (at (row_with shape old k) i) 0) same
 
 -- and by the level
-pub forbidden-levels :
+pub forbidden_levels :
     (shape : Shape) (top : ℕ) → top < shape.width → (old rows : List ℕ) →
-    ((k : ℕ) → k < shape.rows → (i : ℕ) → i < shape.width → at (row-with shape rows k) i ≡ kept (allowed-places shape top) (at (row-with shape old k)) i) →
+    ((k : ℕ) → k < shape.rows → (i : ℕ) → i < shape.width → at (row_with shape rows k) i ≡ kept (allowed_places shape top) (at (row_with shape old k)) i) →
     (k : ℕ) → k < shape.rows → (s : ℕ) → s ≤ top →
-    values-in shape top rows k s ≡ kept (between shape.low shape.above) (values-in shape top old k) s
+    values_in shape top rows k s ≡ kept (between shape.low shape.above) (values_in shape top old k) s
 unfolding kept
-forbidden-levels shape top fits old rows h k l s m =
+forbidden_levels shape top fits old rows h k l s m =
     h k l (top - s) (omega arith)
-    ∙ ap (λ (b : Bool). cond b (values-in shape top old k s) 0) (between-places shape.low shape.above top s m)
+    ∙ ap (λ (b : Bool). cond b (values_in shape top old k s) 0) (between_places shape.low shape.above top s m)

@@ -12,65 +12,65 @@ use lib.ListN.{length, take, drop}
 use lib.Seq.{take-length, get_or-drop}
 use Rattle.model.specs.declared.Rounding.{Rounding}
 use Rattle.model.specs.Sums.{total}
-use Rattle.model.specs.MonthRule.{Row, exact-month, month, claimed-row}
-use Rattle.model.proofs.Month.{claim-sum-none, claim-sum-zero}
-use Rattle.claims.specs.Values.{from-top, Parts}
-use Rattle.month_rows.specs.Rows.{at, Replaced, own-sizes, after-claim-by}
-use Rattle.month_rows.proofs.RowLaws.{claim-sum-agree, row_before}
-use Rattle.month_rows.proofs.ManyRows.{rows_at, row-before-row}
+use Rattle.model.specs.MonthRule.{Row, exact_month, month, claimed_row}
+use Rattle.model.proofs.Month.{claim_sum_none, claim_sum_zero}
+use Rattle.claims.specs.Values.{from_top, Parts}
+use Rattle.month_rows.specs.Rows.{at, Replaced, own_sizes, after_claim_by}
+use Rattle.month_rows.proofs.RowLaws.{claim_sum_agree, row_before}
+use Rattle.month_rows.proofs.ManyRows.{rows_at, row_before_row}
 
 -- a month reads the level above by the income of the quiet row, and the levels below that of the claimed row
-pub month-agree :
+pub month_agree :
     (round : Rounding) (income : ℕ) (F : List ℕ) (P : ℕ) (X Y X' Y' : Row) (s : ℕ) →
     X (s + income) ≡ X' (s + income) → ((k : ℕ) → k < s + income → Y k ≡ Y' k) → month round income F P X Y s ≡ month round income F P X' Y' s
-unfolding month exact-month
-month-agree round income F P X Y X' Y' s ex ey = rw (ex, claim-sum-agree F Y Y' (s + income) (λ k a b. ey k b))
+unfolding month exact_month
+month_agree round income F P X Y X' Y' s ex ey = rw (ex, claim_sum_agree F Y Y' (s + income) (λ k a b. ey k b))
 
 -- the row with no claims left: where claims are tallied, a claim adds nothing
-month-own :
+month_own :
     (round : Rounding) (income : ℕ) (F : List ℕ) (P : ℕ) (X : Row) (rows : ℕ → Row) (tallied : Bool) (s : ℕ) →
-    month round income (take (own-sizes tallied (length F)) F) P X (rows 0) s ≡ month round income F P X (claimed-row rows (after-claim-by tallied 0)) s
-unfolding month exact-month own-sizes after-claim-by claimed-row
-month-own round income F P X rows true s =
-    rw (claim-sum-none (rows 0) (s + income), claim-sum-agree F (claimed-row rows none) (λ _. 0) (s + income) nothing, claim-sum-zero F (s + income))
+    month round income (take (own_sizes tallied (length F)) F) P X (rows 0) s ≡ month round income F P X (claimed_row rows (after_claim_by tallied 0)) s
+unfolding month exact_month own_sizes after_claim_by claimed_row
+month_own round income F P X rows true s =
+    rw (claim_sum_none (rows 0) (s + income), claim_sum_agree F (claimed_row rows none) (λ _. 0) (s + income) nothing, claim_sum_zero F (s + income))
   where
-    nothing : (k : ℕ) → 0 < k → k < s + income → claimed-row rows none k ≡ 0
+    nothing : (k : ℕ) → 0 < k → k < s + income → claimed_row rows none k ≡ 0
     nothing k a b = refl
-month-own round income F P X rows false s =
-    rw (take-length F) (month-agree round income F P X (rows 0) X (claimed-row rows (some 0)) s refl same)
+month_own round income F P X rows false s =
+    rw (take-length F) (month_agree round income F P X (rows 0) X (claimed_row rows (some 0)) s refl same)
   where
-    same : (k : ℕ) → k < s + income → rows 0 k ≡ claimed-row rows (some 0) k
+    same : (k : ℕ) → k < s + income → rows 0 k ≡ claimed_row rows (some 0) k
     same k l = refl
 
-pub own-sizes-le : (tallied : Bool) (sizes : ℕ) → own-sizes tallied sizes ≤ sizes
-unfolding own-sizes
-own-sizes-le true sizes = zero-le
-own-sizes-le false sizes = le_refl sizes
+pub own_sizes_le : (tallied : Bool) (sizes : ℕ) → own_sizes tallied sizes ≤ sizes
+unfolding own_sizes
+own_sizes_le true sizes = zero-le
+own_sizes_le false sizes = le_refl sizes
 
-pub total-take-le : (n : ℕ) (F : List ℕ) → total (take n F) ≤ total F
+pub total_take_le : (n : ℕ) (F : List ℕ) → total (take n F) ≤ total F
 unfolding total
-total-take-le zero F = zero-le
-total-take-le (suc n) [] = zero-le
-total-take-le (suc n) (f ∷ F) = omega (arith, total-take-le n F)
+total_take_le zero F = zero-le
+total_take_le (suc n) [] = zero-le
+total_take_le (suc n) (f ∷ F) = omega (arith, total_take_le n F)
 
 -- the rows before a month by the claims left, from those after it
 abbrev pub rows_before : Rounding → ℕ → List ℕ → ℕ → Bool → (ℕ → Row) → ℕ → Row
-rows_before round income F P tallied rows k = month round income F P (rows k) (claimed-row rows (after-claim-by tallied k))
+rows_before round income F P tallied rows k = month round income F P (rows k) (claimed_row rows (after_claim_by tallied k))
 
 -- a row with claims left: a claim leads to the row with one fewer
-claimed-next : (rows : ℕ → Row) (tallied : Bool) (k : ℕ) → claimed-row rows (after-claim-by tallied (suc k)) ≡ rows k
-unfolding claimed-row after-claim-by
-claimed-next rows tallied k = fun_ext (λ s. refl)
+claimed_next : (rows : ℕ → Row) (tallied : Bool) (k : ℕ) → claimed_row rows (after_claim_by tallied (suc k)) ≡ rows k
+unfolding claimed_row after_claim_by
+claimed_next rows tallied k = fun_ext (λ s. refl)
 
 -- what lies from an index on is as it was, so a row there is
 row_same :
-    (top a b : ℕ) (rows old : List ℕ) → a ≤ b → ((k : ℕ) → a ≤ k → at rows k ≡ at old k) → from-top top (drop b rows) ≡ from-top top (drop b old)
+    (top a b : ℕ) (rows old : List ℕ) → a ≤ b → ((k : ℕ) → a ≤ k → at rows k ≡ at old k) → from_top top (drop b rows) ≡ from_top top (drop b old)
 row_same top a b rows old l h =
     fun_ext (λ s. get_or-drop b rows (top - s) 0 ∙ h (b + (top - s)) (omega arith) ∙ sym (get_or-drop b old (top - s) 0))
 
--- the rows by the claims left, where row `last` has none: `values-in` of a shape
+-- the rows by the claims left, where row `last` has none: `values_in` of a shape
 abbrev pub rows_left : ℕ → ℕ → ℕ → List ℕ → ℕ → Row
-rows_left last width top xs k = from-top top (drop ((last - k) * width) xs)
+rows_left last width top xs k = from_top top (drop ((last - k) * width) xs)
 
 -- Rows taken back one after the other, from the first. Of the rows before row j the first places are new, by the claims left and the level, and those
 -- beyond old; from row j on all is old.
@@ -81,8 +81,8 @@ pub record GoingBack (last width live : ℕ) (new : ℕ → Row) (old rows : Lis
   pub beyond : (i : ℕ) → i < j → (p : ℕ) → live ≤ p → p < width → rows_at width rows i p ≡ rows_at width old i p
   pub rest : (k : ℕ) → j * width ≤ k → at rows k ≡ at old k
 
-pub going-back-start : (last width live : ℕ) (new : ℕ → Row) (old : List ℕ) → Parts old → GoingBack last width live new old old 0
-going-back-start last width live new old h =
+pub going_back_start : (last width live : ℕ) (new : ℕ → Row) (old : List ℕ) → Parts old → GoingBack last width live new old old 0
+going_back_start last width live new old h =
     record {
       same_length = refl;
       parts = h;
@@ -96,12 +96,12 @@ same_place : (a : ℕ) (xs ys : List ℕ) (p : ℕ) → at xs (a + p) ≡ at ys 
 same_place a xs ys p e = get_or-drop a xs p 0 ∙ e ∙ sym (get_or-drop a ys p 0)
 
 -- one row more, whose new places are known
-going-back-row :
+going_back_row :
     (last width live : ℕ) → live ≤ width → (new : ℕ → Row) (old rows rows' : List ℕ) (j : ℕ) → GoingBack last width live new old rows j →
     length rows' ≡ length rows → Parts rows' →
     Replaced (j * width) live (λ p. new (last - j) (live - 1 - p)) rows rows' →
     GoingBack last width live new old rows' (j + 1)
-going-back-row last width live lw new old rows rows' j h n parts row =
+going_back_row last width live lw new old rows rows' j h n parts row =
     record {
       same_length = n ∙ h.same_length;
       parts = parts;
@@ -119,13 +119,13 @@ going-back-row last width live lw new old rows rows' j h n parts row =
     next = rw (add-one, suc-mul)
 
     passed : (i : ℕ) → i < j → (p : ℕ) → p < width → rows_at width rows' i p ≡ rows_at width rows i p
-    passed i b p l = same_place (i * width) rows' rows p (row.earlier (i * width + p) (row-before-row i j width p b l))
+    passed i b p l = same_place (i * width) rows' rows p (row.earlier (i * width + p) (row_before_row i j width p b l))
 
 -- the row's new values are those of another row as well
-replaced-by : (from count : ℕ) (new new' : Row) (xs ys : List ℕ) → ((i : ℕ) → new i ≡ new' i) → Replaced from count new xs ys → Replaced from count new' xs ys
-replaced-by from count new new' xs ys e h = record { inside = λ i l. h.inside i l ∙ e i; earlier = h.earlier; later = h.later }
+replaced_by : (from count : ℕ) (new new' : Row) (xs ys : List ℕ) → ((i : ℕ) → new i ≡ new' i) → Replaced from count new xs ys → Replaced from count new' xs ys
+replaced_by from count new new' xs ys e h = record { inside = λ i l. h.inside i l ∙ e i; earlier = h.earlier; later = h.later }
 
-module _ (last width : ℕ) (tallied : Bool) (income : ℕ) (some-income : 0 < income) (top live : ℕ) (levels : live + income ≡ top + 1) (fits : top < width) (old F : List ℕ) (P : ℕ) (round : Rounding) where
+module _ (last width : ℕ) (tallied : Bool) (income : ℕ) (some_income : 0 < income) (top live : ℕ) (levels : live + income ≡ top + 1) (fits : top < width) (old F : List ℕ) (P : ℕ) (round : Rounding) where
   abbrev new : ℕ → Row
   new = rows_before round income F P tallied (rows_left last width top old)
 
@@ -134,13 +134,13 @@ module _ (last width : ℕ) (tallied : Bool) (income : ℕ) (some-income : 0 < i
   below = omega arith
 
   -- a row with claims left: a claim leads to the next row
-  pub going-back-turn :
+  pub going_back_turn :
       (rows : List ℕ) (j : ℕ) → j < last → GoingBack last width live new old rows j →
       (rows' : List ℕ) → length rows' ≡ length rows → Parts rows' →
       Replaced (j * width) live (row_before round F P (j * width) (j * width + width) top live rows) rows rows' →
       GoingBack last width live new old rows' (j + 1)
-  going-back-turn rows j l h rows' n parts row =
-      going-back-row last width live (omega arith) new old rows rows' j h n parts (replaced-by (j * width) live _ _ rows rows' same row)
+  going_back_turn rows j l h rows' n parts row =
+      going_back_row last width live (omega arith) new old rows rows' j h n parts (replaced_by (j * width) live _ _ rows rows' same row)
     where
       own : last - j ≡ suc (last - 1 - j)
       own = omega arith
@@ -153,19 +153,19 @@ module _ (last width : ℕ) (tallied : Bool) (income : ℕ) (some-income : 0 < i
 
       same : (p : ℕ) → row_before round F P (j * width) (j * width + width) top live rows p ≡ new (last - j) (live - 1 - p)
       same p =
-          rw (below, own, claimed-next (rows_left last width top old) tallied (last - 1 - j), this, next, row_same top (j * width) (j * width) rows old (omega arith) h.rest)
-          (ap (λ (Y : Row). month round income F P (from-top top (drop (j * width) old)) Y (live - 1 - p))
+          rw (below, own, claimed_next (rows_left last width top old) tallied (last - 1 - j), this, next, row_same top (j * width) (j * width) rows old (omega arith) h.rest)
+          (ap (λ (Y : Row). month round income F P (from_top top (drop (j * width) old)) Y (live - 1 - p))
           (row_same top (j * width) (j * width + width) rows old (omega arith) h.rest))
 
   -- the row with no claims left, the last one
-  pub going-back-end :
+  pub going_back_end :
       (rows : List ℕ) (j : ℕ) → j ≡ last → GoingBack last width live new old rows j →
-      (own : ℕ) → own ≡ own-sizes tallied (length F) →
+      (own : ℕ) → own ≡ own_sizes tallied (length F) →
       (rows' : List ℕ) → length rows' ≡ length rows → Parts rows' →
       Replaced (last * width) live (row_before round (take own F) P (last * width) (last * width) top live rows) rows rows' →
       GoingBack last width live new old rows' (last + 1)
-  going-back-end rows j all h₀ own eo rows' n parts row =
-      going-back-row last width live (omega arith) new old rows rows' last h n parts (replaced-by (last * width) live _ _ rows rows' same row)
+  going_back_end rows j all h₀ own eo rows' n parts row =
+      going_back_row last width live (omega arith) new old rows rows' last h n parts (replaced_by (last * width) live _ _ rows rows' same row)
     where
       h : GoingBack last width live new old rows last
       h = rw all at h₀
@@ -173,25 +173,25 @@ module _ (last width : ℕ) (tallied : Bool) (income : ℕ) (some-income : 0 < i
       none : last - last ≡ 0
       none = omega arith
 
-      own_row : rows_left last width top old 0 ≡ from-top top (drop (last * width) old)
+      own_row : rows_left last width top old 0 ≡ from_top top (drop (last * width) old)
       own_row = rw (sub-zero last)
 
       same : (p : ℕ) → row_before round (take own F) P (last * width) (last * width) top live rows p ≡ new (last - last) (live - 1 - p)
       same p =
           rw (below, none, eo, row_same top (last * width) (last * width) rows old (omega arith) h.rest)
-          (rw (← own_row) (month-own round income F P (rows_left last width top old 0) (rows_left last width top old) tallied (live - 1 - p)))
+          (rw (← own_row) (month_own round income F P (rows_left last width top old 0) (rows_left last width top old) tallied (live - 1 - p)))
 
   -- all rows, by the claims left and the level
-  pub going-back-done :
+  pub going_back_done :
       (rows : List ℕ) (j : ℕ) → last < j → GoingBack last width live new old rows j →
       (k : ℕ) → k ≤ last → (s : ℕ) → s + income ≤ top → rows_left last width (top - income) rows k s ≡ new k s
-  going-back-done rows j all h k l s m =
+  going_back_done rows j all h k l s m =
       let claims : last - (last - k) ≡ k = omega arith in
       let level : live - 1 - (top - income - s) ≡ s = omega arith in
       h.done (last - k) (omega arith) (top - income - s) (omega arith) ∙ ap₂ new claims level
 
   -- and the places beyond, by the claims left
-  pub going-back-beyond :
+  pub going_back_beyond :
       (rows : List ℕ) (j : ℕ) → last < j → GoingBack last width live new old rows j →
       (k : ℕ) → k ≤ last → (i : ℕ) → top < i + income → i < width → rows_at width rows (last - k) i ≡ rows_at width old (last - k) i
-  going-back-beyond rows j all h k l i m b = h.beyond (last - k) (omega arith) i (omega arith) b
+  going_back_beyond rows j all h k l i m b = h.beyond (last - k) (omega arith) i (omega arith) b

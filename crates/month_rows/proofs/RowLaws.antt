@@ -10,31 +10,31 @@ use lib.Seq.{length-take-le, get_or-take, get_or-drop, get_or-set_same, get_or-s
 use Rattle.model.specs.declared.Head.{Head}
 use Rattle.model.specs.declared.Rounding.{Rounding}
 use Rattle.model.specs.Scale.{S, quotient}
-use Rattle.model.specs.MonthRule.{Row, claim-sum, exact-month, month}
-use Rattle.model.specs.FilledSizes.{filled-sum}
+use Rattle.model.specs.MonthRule.{Row, claim_sum, exact_month, month}
+use Rattle.model.specs.FilledSizes.{filled_sum}
 use Rattle.model.proofs.Facts.{Facts}
-use Rattle.model.proofs.Month.{claim-sum-none, claim-sum-ground, claim-sum-cons}
-use Rattle.model.proofs.FilledLaws.{filled-sum-is}
-use Rattle.claims.specs.Values.{from-top, Parts}
+use Rattle.model.proofs.Month.{claim_sum_none, claim_sum_ground, claim_sum_cons}
+use Rattle.model.proofs.FilledLaws.{filled_sum_is}
+use Rattle.claims.specs.Values.{from_top, Parts}
 use Rattle.month_rows.specs.Rows.{Replaced}
 
 -- the claim sum reads the levels above 0 and below its own
-pub claim-sum-agree :
-    (F : List ℕ) (Y Z : Row) (r : ℕ) → ((s : ℕ) → 0 < s → s < r → Y s ≡ Z s) → claim-sum F Y r ≡ claim-sum F Z r
-claim-sum-agree [] Y Z r h = claim-sum-none Y r ∙ sym (claim-sum-none Z r)
-claim-sum-agree (f ∷ F) Y Z zero h = claim-sum-ground (f ∷ F) Y 0 zero-le ∙ sym (claim-sum-ground (f ∷ F) Z 0 zero-le)
-claim-sum-agree (f ∷ F) Y Z (suc zero) h = claim-sum-ground (f ∷ F) Y 1 (le_refl 1) ∙ sym (claim-sum-ground (f ∷ F) Z 1 (le_refl 1))
-claim-sum-agree (f ∷ F) Y Z (suc (suc r)) h =
+pub claim_sum_agree :
+    (F : List ℕ) (Y Z : Row) (r : ℕ) → ((s : ℕ) → 0 < s → s < r → Y s ≡ Z s) → claim_sum F Y r ≡ claim_sum F Z r
+claim_sum_agree [] Y Z r h = claim_sum_none Y r ∙ sym (claim_sum_none Z r)
+claim_sum_agree (f ∷ F) Y Z zero h = claim_sum_ground (f ∷ F) Y 0 zero-le ∙ sym (claim_sum_ground (f ∷ F) Z 0 zero-le)
+claim_sum_agree (f ∷ F) Y Z (suc zero) h = claim_sum_ground (f ∷ F) Y 1 (le_refl 1) ∙ sym (claim_sum_ground (f ∷ F) Z 1 (le_refl 1))
+claim_sum_agree (f ∷ F) Y Z (suc (suc r)) h =
     rw (
-      claim-sum-cons f F Y r,
-      claim-sum-cons f F Z r,
+      claim_sum_cons f F Y r,
+      claim_sum_cons f F Z r,
       h (suc r) (omega arith) (omega arith),
-      claim-sum-agree F Y Z (suc r) (λ s a b. h s a (omega arith)),
+      claim_sum_agree F Y Z (suc r) (λ s a b. h s a (omega arith)),
     )
 
 -- numbers of at most S: after a store, and in a part
-pub parts-set : (xs : List ℕ) (i v : ℕ) → Parts xs → v ≤ S → Parts (set xs i v)
-parts-set xs i v h l = record { each = go xs i h.each }
+pub parts_set : (xs : List ℕ) (i v : ℕ) → Parts xs → v ≤ S → Parts (set xs i v)
+parts_set xs i v h l = record { each = go xs i h.each }
   where
     go : (xs : List ℕ) (i : ℕ) → ((k : ℕ) → get_or xs k 0 ≤ S) → (k : ℕ) → get_or (set xs i v) k 0 ≤ S
     go [] i h k = h k
@@ -43,21 +43,21 @@ parts-set xs i v h l = record { each = go xs i h.each }
     go (x ∷ xs) (suc i) h zero = h zero
     go (x ∷ xs) (suc i) h (suc k) = go xs i (λ j. h (suc j)) k
 
-getD-take-le : (n : ℕ) (xs : List ℕ) (k : ℕ) → get_or (take n xs) k 0 ≤ get_or xs k 0
-getD-take-le zero xs k = zero-le
-getD-take-le (suc n) [] k = le_refl 0
-getD-take-le (suc n) (x ∷ xs) zero = le_refl x
-getD-take-le (suc n) (x ∷ xs) (suc k) = getD-take-le n xs k
+getD_take_le : (n : ℕ) (xs : List ℕ) (k : ℕ) → get_or (take n xs) k 0 ≤ get_or xs k 0
+getD_take_le zero xs k = zero-le
+getD_take_le (suc n) [] k = le_refl 0
+getD_take_le (suc n) (x ∷ xs) zero = le_refl x
+getD_take_le (suc n) (x ∷ xs) (suc k) = getD_take_le n xs k
 
-pub parts-drop : (xs : List ℕ) (a : ℕ) → Parts xs → Parts (drop a xs)
-parts-drop xs a h = record { each = λ k. rw (get_or-drop a xs k 0) (h.each (a + k)) }
+pub parts_drop : (xs : List ℕ) (a : ℕ) → Parts xs → Parts (drop a xs)
+parts_drop xs a h = record { each = λ k. rw (get_or-drop a xs k 0) (h.each (a + k)) }
 
-pub parts-part : (xs : List ℕ) (a n : ℕ) → Parts xs → Parts (take n (drop a xs))
-parts-part xs a n h = record { each = λ k. le_trans (getD-take-le n (drop a xs) k) ((parts-drop xs a h).each k) }
+pub parts_part : (xs : List ℕ) (a n : ℕ) → Parts xs → Parts (take n (drop a xs))
+parts_part xs a n h = record { each = λ k. le_trans (getD_take_le n (drop a xs) k) ((parts_drop xs a h).each k) }
 
 -- the chances of an accepted plan's first months
-pub chances-parts : (h : Head) (row : List ℕ) → Facts h row → (months : ℕ) → Parts (take months row)
-chances-parts h row f months = parts-part row 0 months (record { each = f.numbers_fit })
+pub chances_parts : (h : Head) (row : List ℕ) → Facts h row → (months : ℕ) → Parts (take months row)
+chances_parts h row f months = parts_part row 0 months (record { each = f.numbers_fit })
 
 pub length_part : (xs : List ℕ) (from to : ℕ) → from ≤ to → to ≤ length xs → length (take (to - from) (drop from xs)) ≡ to - from
 length_part xs from to l m = length-take-le (to - from) (drop from xs) (omega (arith, length-drop from xs))
@@ -68,8 +68,8 @@ pub record FilledTo (old : List ℕ) (value : ℕ) (part : List ℕ) (k : ℕ) :
   pub same_length : length part ≡ length old
   pub so_far : part ≡ replicate k value ++ drop k old
 
-pub filled-to-end : (old : List ℕ) (value : ℕ) (part : List ℕ) (k : ℕ) → length part ≤ k → FilledTo old value part k → part ≡ replicate (length old) value
-filled-to-end old value part k l h =
+pub filled_to_end : (old : List ℕ) (value : ℕ) (part : List ℕ) (k : ℕ) → length part ≤ k → FilledTo old value part k → part ≡ replicate (length old) value
+filled_to_end old value part k l h =
     let all : k ≡ length old = omega (arith, h.within, h.same_length) in
     h.so_far ∙ rw (all, drop_of_length-le old {i = length old} (le_refl (length old)), append-nil)
 
@@ -79,21 +79,21 @@ pub record Rewriting (old : List ℕ) (from : ℕ) (new : Row) (rows : List ℕ)
   pub parts : Parts rows
   pub so_far : Replaced from i new old rows
 
-pub rewriting-start : (old : List ℕ) (from : ℕ) (new : Row) → Parts old → Rewriting old from new old 0
-rewriting-start old from new h =
+pub rewriting_start : (old : List ℕ) (from : ℕ) (new : Row) → Parts old → Rewriting old from new old 0
+rewriting_start old from new h =
     record {
       same_length = refl;
       parts = h;
       so_far = record { inside = λ j l. absurd (omega arith); earlier = λ k l. refl; later = λ k l. refl };
     }
 
-pub rewriting-turn :
+pub rewriting_turn :
     (old : List ℕ) (from : ℕ) (new : Row) (rows : List ℕ) (i v : ℕ) → Rewriting old from new rows i → from + i < length rows → v ≡ new i → v ≤ S →
     Rewriting old from new (set rows (from + i) v) (i + 1)
-rewriting-turn old from new rows i v h l e b =
+rewriting_turn old from new rows i v h l e b =
     record {
       same_length = simp length-set h.same_length;
-      parts = parts-set rows (from + i) v h.parts b;
+      parts = parts_set rows (from + i) v h.parts b;
       so_far = record {
         inside = below_more (λ (j : ℕ). get_or (set rows (from + i) v) (from + j) 0 ≡ new j) i passed (get_or-set_same rows (from + i) v 0 l ∙ e);
         earlier = λ k m. others k (λ z. omega (arith, z)) ∙ h.so_far.earlier k m;
@@ -110,22 +110,22 @@ rewriting-turn old from new rows i v h l e b =
 -- the places of a row one month back, with the income top + 1 - live: after a claim the row at `claimed` is read, else the row at `quiet`
 abbrev pub row_before : Rounding → List ℕ → ℕ → ℕ → ℕ → ℕ → ℕ → List ℕ → Row
 row_before round F P quiet claimed top live old i =
-    month round (top + 1 - live) F P (from-top top (drop quiet old)) (from-top top (drop claimed old)) (live - 1 - i)
+    month round (top + 1 - live) F P (from_top top (drop quiet old)) (from_top top (drop claimed old)) (live - 1 - i)
 
 module _ (old F : List ℕ) (quiet claimed top live P : ℕ) (round : Rounding) (order : quiet ≤ claimed) (levels : live ≤ top) where
   -- what a turn's claim sum reads lies beyond its place, and is still old
-  pub sum-beyond :
+  pub sum_beyond :
       (rows : List ℕ) (i : ℕ) → i < live → claimed + top ≤ length rows →
       Rewriting old quiet (row_before round F P quiet claimed top live old) rows i →
       (n : ℕ) (xs : List ℕ) → xs ≡ take (claimed + top - (claimed + i + 1)) (drop (claimed + i + 1) rows) → n ≡ length xs →
-      (sum : ℕ) → sum ≡ filled-sum F (from-top n xs) (n + 1) → sum ≡ claim-sum F (from-top top (drop claimed old)) (top - i)
-  sum-beyond rows i l fits h n xs ex en sum es =
+      (sum : ℕ) → sum ≡ filled_sum F (from_top n xs) (n + 1) → sum ≡ claim_sum F (from_top top (drop claimed old)) (top - i)
+  sum_beyond rows i l fits h n xs ex en sum es =
       let inside : i < top = omega arith in
       let count : length xs ≡ top - (i + 1) = ap length ex ∙ length_part rows (claimed + i + 1) (claimed + top) (omega arith) fits ∙ omega arith in
       let whole : n + 1 ≡ top - i = omega arith in
       es
-      ∙ filled-sum-is F (from-top n xs) (n + 1)
-      ∙ rw whole (claim-sum-agree F (from-top n xs) (from-top top (drop claimed old)) (top - i) (λ s a b. same s a b (omega arith)))
+      ∙ filled_sum_is F (from_top n xs) (n + 1)
+      ∙ rw whole (claim_sum_agree F (from_top n xs) (from_top top (drop claimed old)) (top - i) (λ s a b. same s a b (omega arith)))
     where
       same : (s : ℕ) → 0 < s → s < top - i → n ≡ top - (i + 1) → get_or xs (n - s) 0 ≡ get_or (drop claimed old) (top - s) 0
       same s a b e =
@@ -138,10 +138,10 @@ module _ (old F : List ℕ) (quiet claimed top live P : ℕ) (round : Rounding) 
           ∙ sym (get_or-drop claimed old (top - s) 0))
 
   pub value_before :
-      (i quiet-value sum : ℕ) → i < live → quiet-value ≡ get_or old (quiet + i) 0 → sum ≡ claim-sum F (from-top top (drop claimed old)) (top - i) →
-      (value : ℕ) → value ≡ quotient round ((S - P) * S * quiet-value + P * sum) (S * S) → value ≡ row_before round F P quiet claimed top live old i
-  unfolding month exact-month
-  value_before i quiet-value sum l e f value ev =
+      (i quiet_value sum : ℕ) → i < live → quiet_value ≡ get_or old (quiet + i) 0 → sum ≡ claim_sum F (from_top top (drop claimed old)) (top - i) →
+      (value : ℕ) → value ≡ quotient round ((S - P) * S * quiet_value + P * sum) (S * S) → value ≡ row_before round F P quiet claimed top live old i
+  unfolding month exact_month
+  value_before i quiet_value sum l e f value ev =
       let level : live - 1 - i + (top + 1 - live) ≡ top - i = omega arith in
       let place : top - (top - i) ≡ i = omega arith in
       ev ∙ rw (level, e, f, get_or-drop quiet old (top - (top - i)) 0, place)

@@ -12,9 +12,9 @@ at xs i = get_or xs i 0
 
 -- What a month takes beside its rows: weights that add up to at most S, the sizes of the table that are not empty, and a chance.
 pub record MonthTerms (severity sizes : List ℕ) (dense chance : ℕ) : Type 0 where
-  pub weights-fit : total severity ≤ S
+  pub weights_fit : total severity ≤ S
   pub listing : Listing severity sizes dense
-  pub chance-fits : chance ≤ S
+  pub chance_fits : chance ≤ S
 
 -- So many places from `from` on hold new values, and all others what they held.
 pub record Replaced (from count : ℕ) (new : Row) (before after : List ℕ) : Type 0 where
@@ -27,10 +27,10 @@ unfoldable pub between : ℕ → ℕ → ℕ → Bool
 between low above s = leb low s && ltb s above
 
 -- The claims left after one more claim. Where claims are not tallied there is one row, which every claim comes back to.
-unfoldable pub after-claim-by : Bool → ℕ → Option ℕ
-after-claim-by tallied zero = cond tallied none (some 0)
-after-claim-by tallied (suc k) = some k
+unfoldable pub after_claim_by : Bool → ℕ → Option ℕ
+after_claim_by tallied zero = cond tallied none (some 0)
+after_claim_by tallied (suc k) = some k
 
 -- the sizes that a claim may have in the row with no claims left
-unfoldable pub own-sizes : Bool → ℕ → ℕ
-own-sizes tallied sizes = cond tallied 0 sizes
+unfoldable pub own_sizes : Bool → ℕ → ℕ
+own_sizes tallied sizes = cond tallied 0 sizes

@@ -1,10 +1,10 @@
 // Rows of values in lent memory. The place in a row is what has been paid in claims: a month without a claim keeps the place, a claim of size x
 // leads x places on. So a month reads a place and those beyond it, and rewrites a row in place going upward.
 ghost use Rattle.std.specs.Prelude.{◌≡◌, ℕ, ◌+◌, ◌-◌, ◌<◌, ◌≤◌, length, drop, replicate};
-ghost use Rattle.model.specs.MonthRule.{month, kept, claimed-row};
-ghost use Rattle.claims.specs.Values.{from-top, Parts};
-ghost use Rattle.month_rows.specs.Rows.{at, MonthTerms, Replaced, between, own-sizes, after-claim-by};
-ghost use Rattle.month_rows.specs.Shapes.{row-with, values-in, RowsIn, TopIn, allowed-places};
+ghost use Rattle.model.specs.MonthRule.{month, kept, claimed_row};
+ghost use Rattle.claims.specs.Values.{from_top, Parts};
+ghost use Rattle.month_rows.specs.Rows.{at, MonthTerms, Replaced, between, own_sizes, after_claim_by};
+ghost use Rattle.month_rows.specs.Shapes.{row_with, values_in, RowsIn, TopIn, allowed_places};
 
 use claims::sizes::first_within;
 use claims::sum::claim_sum;
@@ -37,7 +37,7 @@ pub fn fill(part: &mut [u32], value: u32)
 // A row's value at a level, where place 0 holds the level `top`.
 pub fn value_at(row: &[u32], top: usize, level: usize) -> u32
     requires { (level ≤ top) × (top < length row.now) }
-    ensures { result ≡ from-top top row.now level }
+    ensures { result ≡ from_top top row.now level }
 {
     row[top - level]
 }
@@ -61,7 +61,7 @@ pub fn row_back(
     requires parts_2 { Parts rows.old }
     requires month_terms { MonthTerms severity.now sizes.now dense chance }
     ensures rewritten { Replaced quiet live
-        (λ i. month round (top + 1 - live) severity.now chance (from-top top (drop quiet rows.old)) (from-top top (drop claimed rows.old)) (live - 1 - i))
+        (λ i. month round (top + 1 - live) severity.now chance (from_top top (drop quiet rows.old)) (from_top top (drop claimed rows.old)) (live - 1 - i))
         rows.old rows.new }
     ensures parts { Parts rows.new }
 {
@@ -99,7 +99,7 @@ fn forbid(row: &mut [u32], first: usize, last: usize)
 pub fn forbid_rows(rows: &mut [u32], shape: Shape, top: usize)
     requires { RowsIn shape rows.old × (top < shape.width) }
     ensures forbidden { (k : ℕ) → k < shape.rows → (i : ℕ) → i < shape.width →
-        at (row-with shape rows.new k) i ≡ kept (allowed-places shape top) (at (row-with shape rows.old k)) i }
+        at (row_with shape rows.new k) i ≡ kept (allowed_places shape top) (at (row_with shape rows.old k)) i }
     ensures parts { Parts rows.new }
 {
     let count = shape.rows;
@@ -117,7 +117,7 @@ pub fn forbid_rows(rows: &mut [u32], shape: Shape, top: usize)
 
 // How many sizes a claim may have in the row with no claims left: none if the rows are told apart by the claims left.
 fn own_sizes(tallied: bool, sizes: usize) -> usize
-    ensures { result ≡ own-sizes tallied sizes }
+    ensures { result ≡ own_sizes tallied sizes }
 {
     if tallied { 0 } else { sizes }
 }
@@ -138,11 +138,11 @@ pub fn all_rows_back(
     requires top_in { TopIn shape top }
     requires month_terms { MonthTerms severity.now sizes.now dense chance }
     ensures rewritten { (k : ℕ) → k < shape.rows → (s : ℕ) → s + shape.income ≤ top →
-        values-in shape (top - shape.income) rows.new k s
-        ≡ month round shape.income severity.now chance (values-in shape top rows.old k)
-        (claimed-row (values-in shape top rows.old) (after-claim-by shape.tallied k)) s }
+        values_in shape (top - shape.income) rows.new k s
+        ≡ month round shape.income severity.now chance (values_in shape top rows.old k)
+        (claimed_row (values_in shape top rows.old) (after_claim_by shape.tallied k)) s }
     ensures beyond { (k : ℕ) → k < shape.rows → (i : ℕ) → top < i + shape.income → i < shape.width →
-        at (row-with shape rows.new k) i ≡ at (row-with shape rows.old k) i }
+        at (row_with shape rows.new k) i ≡ at (row_with shape rows.old k) i }
     ensures parts { Parts rows.new }
 {
     let tallied = shape.tallied;

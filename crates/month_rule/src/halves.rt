@@ -2,12 +2,12 @@
 // halves hold, the walk back through the months is this one.
 ghost use Rattle.std.specs.Prelude.{◌≡◌, ℕ, ◌*◌, ◌<◌, length, get_or, take, drop, replicate};
 ghost use Rattle.model.specs.declared.Rounding.TheVariants.{Down, Up};
-ghost use Rattle.model.specs.Levels.{largest-level};
+ghost use Rattle.model.specs.Levels.{largest_level};
 ghost use Rattle.model.specs.MonthRule.{all_placed};
 ghost use Rattle.claims.specs.Values.{Parts};
 ghost use Rattle.claims.specs.Listing.{Listing};
 ghost use Rattle.month_rule.specs.Months.{PlanTerms, HalvesIn, TakenBack};
-ghost use Rattle.month_rows.specs.Shapes.{rows-size, values-in};
+ghost use Rattle.month_rows.specs.Shapes.{rows_size, values_in};
 
 use crate::months::all_months_back;
 use claims::sizes::list_sizes;
@@ -16,8 +16,8 @@ use month_rows::rows::{Shape, fill};
 
 // The rows after the last month in one half: S with no claims left, and 0 otherwise.
 fn last_rows(rows: &mut [u32], shape: Shape)
-    requires { (0 < shape.rows) × (length rows.old ≡ rows-size shape) }
-    ensures filled { (top : ℕ) → top < shape.width → (k : ℕ) → k < shape.rows → (s : ℕ) → values-in shape top rows.new k s ≡ all_placed k s }
+    requires { (0 < shape.rows) × (length rows.old ≡ rows_size shape) }
+    ensures filled { (top : ℕ) → top < shape.width → (k : ℕ) → k < shape.rows → (s : ℕ) → values_in shape top rows.new k s ≡ all_placed k s }
     ensures parts { Parts rows.new }
 {
     let start = (shape.rows - 1) * shape.width;
@@ -27,11 +27,11 @@ fn last_rows(rows: &mut [u32], shape: Shape)
 
 // The same in both halves.
 pub fn last_halves(halves: &mut [u32], shape: Shape)
-    requires { (0 < shape.rows) × (length halves.old ≡ 2 * rows-size shape) }
+    requires { (0 < shape.rows) × (length halves.old ≡ 2 * rows_size shape) }
     ensures lower { (top : ℕ) → top < shape.width → (k : ℕ) → k < shape.rows → (s : ℕ) →
-        values-in shape top (take (rows-size shape) halves.new) k s ≡ all_placed k s }
+        values_in shape top (take (rows_size shape) halves.new) k s ≡ all_placed k s }
     ensures upper { (top : ℕ) → top < shape.width → (k : ℕ) → k < shape.rows → (s : ℕ) →
-        values-in shape top (drop (rows-size shape) halves.new) k s ≡ all_placed k s }
+        values_in shape top (drop (rows_size shape) halves.new) k s ≡ all_placed k s }
     ensures parts { Parts halves.new }
 {
     let half = shape.rows * shape.width;
@@ -50,11 +50,11 @@ fn listed_halves_back(
     dense: usize,
 )
     requires halves_in { HalvesIn shape halves.old }
-    requires chances_bound { largest-level shape.income opening (length chances.now) < shape.width }
+    requires chances_bound { largest_level shape.income opening (length chances.now) < shape.width }
     requires plan_terms { PlanTerms severity.now chances.now }
     requires listing { Listing severity.now sizes.now dense }
-    ensures lower { TakenBack Down severity.now shape opening chances.now (take (rows-size shape) halves.old) (take (rows-size shape) halves.new) }
-    ensures upper { TakenBack Up severity.now shape opening chances.now (drop (rows-size shape) halves.old) (drop (rows-size shape) halves.new) }
+    ensures lower { TakenBack Down severity.now shape opening chances.now (take (rows_size shape) halves.old) (take (rows_size shape) halves.new) }
+    ensures upper { TakenBack Up severity.now shape opening chances.now (drop (rows_size shape) halves.old) (drop (rows_size shape) halves.new) }
 {
     let half = shape.rows * shape.width;
     all_months_back(
@@ -88,10 +88,10 @@ pub fn halves_back(
     severity: &[u32],
 )
     requires halves_in { HalvesIn shape halves.old }
-    requires chances_bound { largest-level shape.income opening (length chances.now) < shape.width }
+    requires chances_bound { largest_level shape.income opening (length chances.now) < shape.width }
     requires plan_terms { PlanTerms severity.now chances.now }
-    ensures lower { TakenBack Down severity.now shape opening chances.now (take (rows-size shape) halves.old) (take (rows-size shape) halves.new) }
-    ensures upper { TakenBack Up severity.now shape opening chances.now (drop (rows-size shape) halves.old) (drop (rows-size shape) halves.new) }
+    ensures lower { TakenBack Down severity.now shape opening chances.now (take (rows_size shape) halves.old) (take (rows_size shape) halves.new) }
+    ensures upper { TakenBack Up severity.now shape opening chances.now (drop (rows_size shape) halves.old) (drop (rows_size shape) halves.new) }
 {
     let filled = list_sizes(severity);
     let sizes = filled.sizes;

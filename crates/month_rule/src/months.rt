@@ -1,12 +1,12 @@
 // All rows of a question through months, from whatever they hold.
 ghost use Rattle.std.specs.Prelude.{◌≡◌, ℕ, ◌+◌, ◌-◌, ◌<◌, ◌≤◌, length};
-ghost use Rattle.model.specs.Levels.{largest-level};
-ghost use Rattle.model.specs.MonthRule.{kept, month, month-back};
+ghost use Rattle.model.specs.Levels.{largest_level};
+ghost use Rattle.model.specs.MonthRule.{kept, month, month_back};
 ghost use Rattle.claims.specs.Values.{Parts};
 ghost use Rattle.claims.specs.Listing.{Listing};
 ghost use Rattle.month_rows.specs.Rows.{at, MonthTerms};
-ghost use Rattle.month_rule.specs.Months.{PlanTerms, rule-by, TakenBack};
-ghost use Rattle.month_rows.specs.Shapes.{row-with, values-in, RowsIn, TopIn, allowed-places};
+ghost use Rattle.month_rule.specs.Months.{PlanTerms, rule_by, TakenBack};
+ghost use Rattle.month_rows.specs.Shapes.{row_with, values_in, RowsIn, TopIn, allowed_places};
 
 use model::Rounding;
 use month_rows::rows::{Shape, all_rows_back, forbid_rows};
@@ -26,10 +26,10 @@ pub fn month_back(
     requires top_in { TopIn shape top }
     requires month_terms { MonthTerms severity.now sizes.now dense chance }
     ensures back { (k : ℕ) → k < shape.rows → (s : ℕ) → s + shape.income ≤ top →
-        values-in shape (top - shape.income) rows.new k s
-        ≡ month-back (month round shape.income severity.now) (rule-by shape) chance (values-in shape top rows.old) k s }
+        values_in shape (top - shape.income) rows.new k s
+        ≡ month_back (month round shape.income severity.now) (rule_by shape) chance (values_in shape top rows.old) k s }
     ensures beyond { (k : ℕ) → k < shape.rows → (i : ℕ) → top < i + shape.income → i < shape.width →
-        at (row-with shape rows.new k) i ≡ kept (allowed-places shape top) (at (row-with shape rows.old k)) i }
+        at (row_with shape rows.new k) i ≡ kept (allowed_places shape top) (at (row_with shape rows.old k)) i }
     ensures parts { Parts rows.new }
 {
     forbid_rows(rows, shape, top);
@@ -48,7 +48,7 @@ pub fn all_months_back(
     round: Rounding,
 )
     requires rows_in { RowsIn shape rows.old }
-    requires chances_bound { largest-level shape.income opening (length chances.now) < shape.width }
+    requires chances_bound { largest_level shape.income opening (length chances.now) < shape.width }
     requires plan_terms { PlanTerms severity.now chances.now }
     requires listing { Listing severity.now sizes.now dense }
     ensures values { TakenBack round severity.now shape opening chances.now rows.old rows.new }

@@ -12,21 +12,21 @@ unfolding same
 itself [] = refl
 itself (x ∷ xs) = rw (eq-eqb x x refl) (itself xs)
 
-pub equal-same : (xs ys : List ℕ) → xs ≡ ys → same xs ys ≡ true
-equal-same xs ys e = rw (← e) (itself xs)
+pub equal_same : (xs ys : List ℕ) → xs ≡ ys → same xs ys ≡ true
+equal_same xs ys e = rw (← e) (itself xs)
 
-pub and-true : (a b : Bool) → a && b ≡ true → (a ≡ true) × (b ≡ true)
-and-true true b e = (refl, e)
-and-true false b e = (e, cc)
+pub and_true : (a b : Bool) → a && b ≡ true → (a ≡ true) × (b ≡ true)
+and_true true b e = (refl, e)
+and_true false b e = (e, cc)
 
-pub same-equal : (xs ys : List ℕ) → same xs ys ≡ true → xs ≡ ys
+pub same_equal : (xs ys : List ℕ) → same xs ys ≡ true → xs ≡ ys
 unfolding same
-same-equal [] [] e = refl
-same-equal [] (y ∷ ys) e = cc
-same-equal (x ∷ xs) [] e = cc
-same-equal (x ∷ xs) (y ∷ ys) e =
-    let parts = and-true (eqb x y) (same xs ys) e in
-    ap₂ (λ (z : ℕ) (zs : List ℕ). z ∷ zs) (eqb-true x y parts.0) (same-equal xs ys parts.1)
+same_equal [] [] e = refl
+same_equal [] (y ∷ ys) e = cc
+same_equal (x ∷ xs) [] e = cc
+same_equal (x ∷ xs) (y ∷ ys) e =
+    let parts = and_true (eqb x y) (same xs ys) e in
+    ap₂ (λ (z : ℕ) (zs : List ℕ). z ∷ zs) (eqb-true x y parts.0) (same_equal xs ys parts.1)
 
 -- two truths that each follow from the other
 pub both_ways : (r s : Bool) → (r ≡ true → s ≡ true) → (s ≡ true → r ≡ true) → r ≡ s
@@ -35,4 +35,4 @@ both_ways false true h k = k refl
 both_ways false false h k = refl
 
 pub told : (xs ys : List ℕ) (r : Bool) → ((r ≡ true → xs ≡ ys) × (xs ≡ ys → r ≡ true)) → r ≡ same xs ys
-told xs ys r h = both_ways r (same xs ys) (λ e. equal-same xs ys (h.0 e)) (λ e. h.1 (same-equal xs ys e))
+told xs ys r h = both_ways r (same xs ys) (λ e. equal_same xs ys (h.0 e)) (λ e. h.1 (same_equal xs ys e))

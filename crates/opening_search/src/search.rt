@@ -2,10 +2,10 @@
 // for it in the second.
 ghost use Rattle.std.specs.Prelude.{◌≡◌, ◌*◌, ◌<◌, ◌≤◌, length, replicate};
 ghost use Rattle.model.specs.Scale.{S};
-ghost use Rattle.model.specs.Levels.{row-levels};
+ghost use Rattle.model.specs.Levels.{row_levels};
 ghost use Rattle.claims.specs.Listing.{Listing};
 ghost use Rattle.month_rule.specs.Months.{PlanTerms};
-ghost use Rattle.opening_search.specs.Search.{search-answer};
+ghost use Rattle.opening_search.specs.Search.{search_answer};
 ghost use Rattle.opening_search.specs.Answers.{refused as Answers·refused};
 
 use crate::LeastAnswer;
@@ -35,10 +35,10 @@ fn listed_search(
     dense: usize,
     target: u32,
 ) -> LeastAnswer
-    requires income_nonzero { (0 < income) × (length workspace.old ≡ 2 * row-levels income opening (length chances.now)) }
+    requires income_nonzero { (0 < income) × (length workspace.old ≡ 2 * row_levels income opening (length chances.now)) }
     requires plan_terms { PlanTerms severity.now chances.now × Listing severity.now sizes.now dense }
     requires target_nonzero { (0 < target) × (target ≤ S) }
-    ensures answered { result ≡ search-answer income severity.now opening chances.now target }
+    ensures answered { result ≡ search_answer income severity.now opening chances.now target }
     ensures cleared { workspace.new ≡ replicate (length workspace.old) 0 }
 {
     let half = opening + income * chances.len() + 1;
@@ -83,10 +83,10 @@ pub fn search(
     severity: &[u32],
     target: u32,
 ) -> LeastAnswer
-    requires income_nonzero { (0 < income) × (length workspace.old ≡ 2 * row-levels income opening (length chances.now)) }
+    requires income_nonzero { (0 < income) × (length workspace.old ≡ 2 * row_levels income opening (length chances.now)) }
     requires plan_terms { PlanTerms severity.now chances.now }
     requires target_nonzero { (0 < target) × (target ≤ S) }
-    ensures answered { result ≡ search-answer income severity.now opening chances.now target }
+    ensures answered { result ≡ search_answer income severity.now opening chances.now target }
     ensures cleared { workspace.new ≡ replicate (length workspace.old) 0 }
 {
     let filled = list_sizes(severity);

@@ -10,12 +10,12 @@ left_after none = 0
 left_after (some k) = k
 
 -- "a claim with none left adds 0": no size is followed then
-unfoldable pub sizes-followed : Option ℕ → ℕ → ℕ
-sizes-followed none sizes = 0
-sizes-followed (some k) sizes = sizes
+unfoldable pub sizes_followed : Option ℕ → ℕ → ℕ
+sizes_followed none sizes = 0
+sizes_followed (some k) sizes = sizes
 
 -- what the value of a level takes: weights and chances within S, and levels that fit a machine word
 pub record Terms (severity chances : List ℕ) (level : ℕ) : Type 0 where
-  pub weights-fit : total severity ≤ S
-  pub chances-fit : (i : ℕ) → get_or chances i 0 ≤ S
-  pub levels-fit : level + length chances < 2 ^ 64
+  pub weights_fit : total severity ≤ S
+  pub chances_fit : (i : ℕ) → get_or chances i 0 ≤ S
+  pub levels_fit : level + length chances < 2 ^ 64

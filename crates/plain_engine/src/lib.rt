@@ -3,11 +3,11 @@ pub mod steps;
 pub mod value;
 
 ghost use Rattle.std.specs.Prelude.{◌≡◌, ℕ, ◌≤◌};
-ghost use Rattle.model.specs.Plan.{plan-of};
+ghost use Rattle.model.specs.Plan.{plan_of};
 ghost use Rattle.model.specs.Bounds.{EnclosesQuestion};
-ghost use Rattle.model.specs.Refusal.{workspace-needed};
+ghost use Rattle.model.specs.Refusal.{workspace_needed};
 ghost use Rattle.engine.specs.Answers.{answer};
-ghost use Rattle.plain_engine.specs.Answers.{plain-refusal, plain-answer};
+ghost use Rattle.plain_engine.specs.Answers.{plain_refusal, plain_answer};
 
 use crate::steps::is_large;
 use crate::value::opening_value;
@@ -18,7 +18,7 @@ use questions::refusals::asked_refusal;
 
 // The plan's checks, then 10 where the plan is too large or the question outside its limits.
 pub fn refusal(ask: Ask, row: &[u32]) -> u32
-    ensures { result ≡ plain-refusal ask row.now }
+    ensures { result ≡ plain_refusal ask row.now }
 {
     let head = ask.head;
     let question = ask.question;
@@ -30,9 +30,9 @@ pub fn refusal(ask: Ask, row: &[u32]) -> u32
 
 // Answers one question about the small plan of the ask's head and the row, as `engine::ask` does with a large enough workspace.
 pub fn ask(ask: Ask, row: &[u32]) -> Answer
-    ensures answered { result ≡ plain-answer ask row.now }
-    ensures same { result.refusal ≡ 0 → (room : ℕ) → workspace-needed ask ≤ room → result ≡ answer ask row.now room }
-    ensures encloses { result.refusal ≡ 0 → EnclosesQuestion (plan-of ask.head row.now) ask.question result.lower result.upper }
+    ensures answered { result ≡ plain_answer ask row.now }
+    ensures same { result.refusal ≡ 0 → (room : ℕ) → workspace_needed ask ≤ room → result ≡ answer ask row.now room }
+    ensures encloses { result.refusal ≡ 0 → EnclosesQuestion (plan_of ask.head row.now) ask.question result.lower result.upper }
 {
     let wrong = refusal(ask, row);
     if wrong != 0 {

@@ -1,8 +1,8 @@
 // What a question says of one step: the levels that it allows, the claims that it still follows, and the last value.
 ghost use Rattle.std.specs.Prelude.{◌≡◌, ℕ, cond};
-ghost use Rattle.model.specs.MonthRule.{rule-of, last_of};
+ghost use Rattle.model.specs.MonthRule.{rule_of, last_of};
 ghost use Rattle.plain_engine.specs.Answers.{too_large};
-ghost use Rattle.plain_engine.specs.Steps.{left_after, sizes-followed};
+ghost use Rattle.plain_engine.specs.Steps.{left_after, sizes_followed};
 
 use model::{Head, Question, SCALE, limits};
 use numbers::difference;
@@ -22,7 +22,7 @@ pub fn is_large(head: Head) -> bool
 
 // Whether a question allows a level at the end of a month.
 pub fn level_allowed(question: Question, level: usize) -> bool
-    ensures { result ≡ (rule-of question).allowed level }
+    ensures { result ≡ (rule_of question).allowed level }
 {
     match question {
         Question::Survive => true,
@@ -41,14 +41,14 @@ pub fn taken(allowed: bool, value: u32) -> u32
 
 // The value of a level at the end of a month.
 pub fn level_value(question: Question, level: usize, value: u32) -> u32
-    ensures { result ≡ cond ((rule-of question).allowed level) value 0 }
+    ensures { result ≡ cond ((rule_of question).allowed level) value 0 }
 {
     taken(level_allowed(question, level), value)
 }
 
 // The claims left to place after one more; only both counts them.
 pub fn claims_after(question: Question, left: usize) -> usize
-    ensures { result ≡ left_after ((rule-of question).after-claim left) }
+    ensures { result ≡ left_after ((rule_of question).after_claim left) }
 {
     match question {
         Question::Survive => left,
@@ -60,7 +60,7 @@ pub fn claims_after(question: Question, left: usize) -> usize
 
 // Of so many claim sizes, those that are followed: none where both has no claim left to place.
 pub fn followed(question: Question, left: usize, sizes: usize) -> usize
-    ensures { result ≡ sizes-followed ((rule-of question).after-claim left) sizes }
+    ensures { result ≡ sizes_followed ((rule_of question).after_claim left) sizes }
 {
     match question {
         Question::Survive => sizes,

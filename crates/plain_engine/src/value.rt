@@ -1,7 +1,7 @@
 // The value of a level in a month, by document 01's month rule as it is read: a value asks for those that it needs in the next month.
 ghost use Rattle.std.specs.Prelude.{◌≡◌};
-ghost use Rattle.model.specs.Limits.{small-income};
-ghost use Rattle.model.specs.MonthRule.{kept, month, values, rule-of, last_of, claims-of, opening-allowed};
+ghost use Rattle.model.specs.Limits.{small_income};
+ghost use Rattle.model.specs.MonthRule.{kept, month, values, rule_of, last_of, claims_of, opening_allowed};
 ghost use Rattle.plain_engine.specs.Steps.{Terms};
 
 use crate::steps::{claims_after, followed, last_value, level_value, taken};
@@ -20,7 +20,7 @@ pub fn value(
     round: Rounding,
 ) -> u32
     requires { Terms severity.now chances.now level }
-    ensures { result ≡ values (month round small-income severity.now) (rule-of question) (last_of question) chances.now left level }
+    ensures { result ≡ values (month round small_income severity.now) (rule_of question) (last_of question) chances.now left level }
 {
     if chances.len() < 1 {
         return last_value(question, left);
@@ -56,7 +56,7 @@ pub fn opening_value(
     round: Rounding,
 ) -> u32
     requires { Terms severity.now chances.now opening }
-    ensures { result ≡ kept (opening-allowed question) (values (month round small-income severity.now) (rule-of question) (last_of question) chances.now (claims-of question)) opening }
+    ensures { result ≡ kept (opening_allowed question) (values (month round small_income severity.now) (rule_of question) (last_of question) chances.now (claims_of question)) opening }
 {
     let left = claims_to_place(question);
     let value = value(question, chances, severity, left, opening, round);
@@ -65,7 +65,7 @@ pub fn opening_value(
 
 // How many claims are to be placed at the opening.
 pub fn claims_to_place(question: Question) -> usize
-    ensures { result ≡ claims-of question }
+    ensures { result ≡ claims_of question }
 {
     match question {
         Question::Survive => 0,

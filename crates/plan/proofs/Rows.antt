@@ -14,17 +14,17 @@ module _ (xs : List ℕ) (i : ℕ) where
   unfolding any
   any_next test h = rw (add-one, drop-cons xs i 0)
 
-  pub total-next : i < length xs → total (drop i xs) ≡ get_or xs i 0 + total (drop (i + 1) xs)
+  pub total_next : i < length xs → total (drop i xs) ≡ get_or xs i 0 + total (drop (i + 1) xs)
   unfolding total
-  total-next h = rw (add-one, drop-cons xs i 0)
+  total_next h = rw (add-one, drop-cons xs i 0)
 
-  pub any-end : (test : ℕ → Bool) → length xs ≤ i → any test (drop i xs) ≡ false
+  pub any_end : (test : ℕ → Bool) → length xs ≤ i → any test (drop i xs) ≡ false
   unfolding any
-  any-end test h = rw (drop_of_length-le xs h)
+  any_end test h = rw (drop_of_length-le xs h)
 
-  pub total-end : length xs ≤ i → total (drop i xs) ≡ 0
+  pub total_end : length xs ≤ i → total (drop i xs) ≡ 0
   unfolding total
-  total-end h = rw (drop_of_length-le xs h)
+  total_end h = rw (drop_of_length-le xs h)
 
 -- A row whose first i numbers are added up: each is of 32 bits, and with what is left they make the whole.
 pub record Summing (row : List ℕ) (sum i : ℕ) : Type 0 where
@@ -33,25 +33,25 @@ pub record Summing (row : List ℕ) (sum i : ℕ) : Type 0 where
   pub whole : sum + total (drop i row) ≡ total row
 
 module _ (row : List ℕ) where
-  pub summing-none : Summing row 0 0
-  summing-none = record { within = omega arith; small = omega arith; whole = omega arith }
+  pub summing_none : Summing row 0 0
+  summing_none = record { within = omega arith; small = omega arith; whole = omega arith }
 
   module _ (sum i : ℕ) (so_far : Summing row sum i) where
-    pub summing-more : i < length row → get_or row i 0 < 2 ^ 32 → Summing row (sum + get_or row i 0) (i + 1)
-    summing-more inside fits =
+    pub summing_more : i < length row → get_or row i 0 < 2 ^ 32 → Summing row (sum + get_or row i 0) (i + 1)
+    summing_more inside fits =
         record {
           within = omega arith;
           small = omega (arith, so_far.small);
-          whole = omega (arith, so_far.whole, total-next row i inside);
+          whole = omega (arith, so_far.whole, total_next row i inside);
         }
 
-    pub summing-done : length row ≤ i → sum ≡ total row
-    summing-done all = omega (arith, so_far.whole, total-end row i all)
+    pub summing_done : length row ≤ i → sum ≡ total row
+    summing_done all = omega (arith, so_far.whole, total_end row i all)
 
 -- all but the last number, and the last
-pub total-last : (xs : List ℕ) (m : ℕ) → length xs ≡ suc m → total (take m xs) + get_or xs m 0 ≡ total xs
+pub total_last : (xs : List ℕ) (m : ℕ) → length xs ≡ suc m → total (take m xs) + get_or xs m 0 ≡ total xs
 unfolding total
-total-last [] m e = absurd (omega (arith, e))
-total-last (x ∷ []) zero e = omega arith
-total-last (x ∷ y ∷ ys) zero e = absurd (omega (arith, e))
-total-last (x ∷ xs) (suc m) e = omega (arith, total-last xs m (omega (arith, e)))
+total_last [] m e = absurd (omega (arith, e))
+total_last (x ∷ []) zero e = omega arith
+total_last (x ∷ y ∷ ys) zero e = absurd (omega (arith, e))
+total_last (x ∷ xs) (suc m) e = omega (arith, total_last xs m (omega (arith, e)))

@@ -3,14 +3,14 @@ pub mod lengths;
 
 ghost use Rattle.std.specs.Prelude.{◌≡◌, ◌≤◌, ◌^◌, ltb, length};
 ghost use Rattle.model.specs.Sums.{total, any};
-ghost use Rattle.model.specs.Refusal.{first, head-checks, plan-refusal};
+ghost use Rattle.model.specs.Refusal.{first, head_checks, plan_refusal};
 
 use crate::lengths::{largest_level, row_length};
 use model::{Head, SCALE, limits};
 
 // 2 horizon, 3 opening, 4 sizes, then 16 income and 17 span.
 pub fn head_refusal(head: Head) -> u32
-    ensures { result ≡ first (head-checks head) }
+    ensures { result ≡ first (head_checks head) }
 {
     let months = head.months;
     let opening = head.opening;
@@ -70,7 +70,7 @@ pub fn sum_of(row: &[u32]) -> u64
 
 // The first refusal of the table that fits a head and a row, 0 if there is none.
 pub fn plan_refusal(head: Head, row: &[u32]) -> u32
-    ensures { result ≡ plan-refusal head row.now }
+    ensures { result ≡ plan_refusal head row.now }
 {
     let refused = head_refusal(head);
     if refused != 0 {

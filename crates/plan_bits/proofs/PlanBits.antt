@@ -7,106 +7,106 @@ use native.Mathlib.Omega.{arith}
 use lib.Dec.{lit<}
 use lib.ListN.{length, get_or, replicate, get_or-eq_default, length-append, length-replicate}
 use Rattle.model.specs.declared.Head.{Head}
-use Rattle.model.specs.Plan.{row-length}
-use Rattle.model.specs.Format.{months-width, opening-width, sizes-width, income-width, number-width, bits, head-bits, plan-bits, bits_of, bit_length, byte-length, head_of, fill-of, filled-bits}
-use Rattle.plan_bits.proofs.Fields.{Bits, bits-bits, bits-flat, bits-append, bits-drop, length-bits, length-flat, field-digit, after-field, flat-digit}
+use Rattle.model.specs.Plan.{row_length}
+use Rattle.model.specs.Format.{months_width, opening_width, sizes_width, income_width, number_width, bits, head_bits, plan_bits, bits_of, bit_length, byte_length, head_of, fill_of, filled_bits}
+use Rattle.plan_bits.proofs.Fields.{Bits, bits_bits, bits_flat, bits_append, bits_drop, length_bits, length_flat, field_digit, after_field, flat_digit}
 
 -- the fields one after the other
-pub plan-fields :
+pub plan_fields :
     (h : Head) (row : List ℕ)
-    → plan-bits h row
-    ≡ bits months-width h.months
-    ++ (bits opening-width h.opening ++ (bits sizes-width h.sizes ++ (bits income-width h.income ++ flat_map (bits number-width) row)))
-unfolding plan-bits
-plan-fields h row = simp append_assoc
+    → plan_bits h row
+    ≡ bits months_width h.months
+    ++ (bits opening_width h.opening ++ (bits sizes_width h.sizes ++ (bits income_width h.income ++ flat_map (bits number_width) row)))
+unfolding plan_bits
+plan_fields h row = simp append_assoc
 
-module _ (h : Head) (row : List ℕ) (row_is : length row ≡ row-length h) where
-  pub length-plan : length (plan-bits h row) ≡ bit_length h
-  unfolding plan-bits bit_length head-bits
-  length-plan = simp (length-append, length-bits, length-flat) (omega arith)
+module _ (h : Head) (row : List ℕ) (row_is : length row ≡ row_length h) where
+  pub length_plan : length (plan_bits h row) ≡ bit_length h
+  unfolding plan_bits bit_length head_bits
+  length_plan = simp (length-append, length_bits, length_flat) (omega arith)
 
-  pub length-filled : length (filled-bits h row) ≡ 8 * byte-length h
-  unfolding filled-bits byte-length
-  length-filled = rw (length-append, length-replicate, length-plan) (omega arith)
+  pub length_filled : length (filled_bits h row) ≡ 8 * byte_length h
+  unfolding filled_bits byte_length
+  length_filled = rw (length-append, length-replicate, length_plan) (omega arith)
 
 -- the bit at a position, by the field that holds it
 module _ (h : Head) (row : List ℕ) (at : ℕ) where
-  pub months-bit : at < months-width → get_or (plan-bits h row) at 0 ≡ h.months / 2 ^ (months-width - 1 - at) % 2
-  months-bit inside = rw (plan-fields h row) (field-digit months-width _ _ at inside)
+  pub months_bit : at < months_width → get_or (plan_bits h row) at 0 ≡ h.months / 2 ^ (months_width - 1 - at) % 2
+  months_bit inside = rw (plan_fields h row) (field_digit months_width _ _ at inside)
 
-  module _ (after-months : months-width ≤ at) where
-    pub opening-bit : at - months-width < opening-width → get_or (plan-bits h row) at 0 ≡ h.opening / 2 ^ (opening-width - 1 - (at - months-width)) % 2
-    opening-bit inside = rw (plan-fields h row) (after-field months-width _ _ at after-months ∙ field-digit opening-width _ _ (at - months-width) inside)
+  module _ (after_months : months_width ≤ at) where
+    pub opening_bit : at - months_width < opening_width → get_or (plan_bits h row) at 0 ≡ h.opening / 2 ^ (opening_width - 1 - (at - months_width)) % 2
+    opening_bit inside = rw (plan_fields h row) (after_field months_width _ _ at after_months ∙ field_digit opening_width _ _ (at - months_width) inside)
 
-    module _ (after-opening : opening-width ≤ at - months-width) where
-      pub sizes-bit : at - months-width - opening-width < sizes-width → get_or (plan-bits h row) at 0 ≡ h.sizes / 2 ^ (sizes-width - 1 - (at - months-width - opening-width)) % 2
-      sizes-bit inside =
-          rw (plan-fields h row)
-          (after-field months-width _ _ at after-months ∙ after-field opening-width _ _ (at - months-width) after-opening ∙ field-digit sizes-width _ _ (at - months-width - opening-width) inside)
+    module _ (after_opening : opening_width ≤ at - months_width) where
+      pub sizes_bit : at - months_width - opening_width < sizes_width → get_or (plan_bits h row) at 0 ≡ h.sizes / 2 ^ (sizes_width - 1 - (at - months_width - opening_width)) % 2
+      sizes_bit inside =
+          rw (plan_fields h row)
+          (after_field months_width _ _ at after_months ∙ after_field opening_width _ _ (at - months_width) after_opening ∙ field_digit sizes_width _ _ (at - months_width - opening_width) inside)
 
-      module _ (after-sizes : sizes-width ≤ at - months-width - opening-width) where
-        abbrev past-sizes : ℕ
-        past-sizes = at - months-width - opening-width - sizes-width
+      module _ (after_sizes : sizes_width ≤ at - months_width - opening_width) where
+        abbrev past_sizes : ℕ
+        past_sizes = at - months_width - opening_width - sizes_width
 
-        sizes-passed : get_or (plan-bits h row) at 0 ≡ get_or (bits income-width h.income ++ flat_map (bits number-width) row) past-sizes 0
-        sizes-passed =
-            rw (plan-fields h row)
-            (after-field months-width _ _ at after-months
-            ∙ after-field opening-width _ _ (at - months-width) after-opening
-            ∙ after-field sizes-width _ _ (at - months-width - opening-width) after-sizes)
+        sizes_passed : get_or (plan_bits h row) at 0 ≡ get_or (bits income_width h.income ++ flat_map (bits number_width) row) past_sizes 0
+        sizes_passed =
+            rw (plan_fields h row)
+            (after_field months_width _ _ at after_months
+            ∙ after_field opening_width _ _ (at - months_width) after_opening
+            ∙ after_field sizes_width _ _ (at - months_width - opening_width) after_sizes)
 
-        pub income-bit : past-sizes < income-width → get_or (plan-bits h row) at 0 ≡ h.income / 2 ^ (income-width - 1 - past-sizes) % 2
-        income-bit inside = sizes-passed ∙ field-digit income-width _ _ past-sizes inside
+        pub income_bit : past_sizes < income_width → get_or (plan_bits h row) at 0 ≡ h.income / 2 ^ (income_width - 1 - past_sizes) % 2
+        income_bit inside = sizes_passed ∙ field_digit income_width _ _ past_sizes inside
 
         pub number_bit :
-            income-width ≤ past-sizes
-            → get_or (plan-bits h row) at 0
-            ≡ get_or row ((past-sizes - income-width) / number-width) 0 / 2 ^ (number-width - 1 - (past-sizes - income-width) % number-width) % 2
-        number_bit after-head =
-            sizes-passed
-            ∙ after-field income-width _ _ past-sizes after-head
-            ∙ flat-digit number-width row (past-sizes - income-width) (lit< tt)
+            income_width ≤ past_sizes
+            → get_or (plan_bits h row) at 0
+            ≡ get_or row ((past_sizes - income_width) / number_width) 0 / 2 ^ (number_width - 1 - (past_sizes - income_width) % number_width) % 2
+        number_bit after_head =
+            sizes_passed
+            ∙ after_field income_width _ _ past_sizes after_head
+            ∙ flat_digit number_width row (past_sizes - income_width) (lit< tt)
 
-        pub no-bit : income-width ≤ past-sizes → length row ≤ (past-sizes - income-width) / number-width → get_or (plan-bits h row) at 0 ≡ 0
-        no-bit after-head past =
-            number_bit after-head ∙ rw (get_or-eq_default row 0 past, zero-div (2 ^ (number-width - 1 - (past-sizes - income-width) % number-width)))
+        pub no_bit : income_width ≤ past_sizes → length row ≤ (past_sizes - income_width) / number_width → get_or (plan_bits h row) at 0 ≡ 0
+        no_bit after_head past =
+            number_bit after_head ∙ rw (get_or-eq_default row 0 past, zero-div (2 ^ (number_width - 1 - (past_sizes - income_width) % number_width)))
 
 -- the bits of bytes
-pub length-bits-of : (bytes : List ℕ) → length (bits_of bytes) ≡ 8 * length bytes
+pub length_bits_of : (bytes : List ℕ) → length (bits_of bytes) ≡ 8 * length bytes
 unfolding bits_of
-length-bits-of bytes = length-flat 8 bytes
+length_bits_of bytes = length_flat 8 bytes
 
-pub bits-bits-of : (bytes : List ℕ) → Bits (bits_of bytes)
+pub bits_bits_of : (bytes : List ℕ) → Bits (bits_of bytes)
 unfolding bits_of
-bits-bits-of bytes = bits-flat 8 bytes (lit< tt)
+bits_bits_of bytes = bits_flat 8 bytes (lit< tt)
 
-pub bits-fill-of : (bytes : List ℕ) → Bits (fill-of bytes)
-unfolding fill-of
-bits-fill-of bytes = bits-drop (bit_length (head_of bytes)) (bits_of bytes) (bits-bits-of bytes)
+pub bits_fill_of : (bytes : List ℕ) → Bits (fill_of bytes)
+unfolding fill_of
+bits_fill_of bytes = bits_drop (bit_length (head_of bytes)) (bits_of bytes) (bits_bits_of bytes)
 
 -- past the end of a list stand zeros already
-pub getD-zeros : (xs : List ℕ) (n i : ℕ) → get_or (xs ++ replicate n 0) i 0 ≡ get_or xs i 0
-getD-zeros [] n i = zeros n i
+pub getD_zeros : (xs : List ℕ) (n i : ℕ) → get_or (xs ++ replicate n 0) i 0 ≡ get_or xs i 0
+getD_zeros [] n i = zeros n i
   where
     zeros : (n i : ℕ) → get_or {A = ℕ} (replicate n 0) i 0 ≡ 0
     zeros zero i = refl
     zeros (suc n) zero = refl
     zeros (suc n) (suc i) = zeros n i
-getD-zeros (x ∷ xs) n zero = refl
-getD-zeros (x ∷ xs) n (suc i) = getD-zeros xs n i
+getD_zeros (x ∷ xs) n zero = refl
+getD_zeros (x ∷ xs) n (suc i) = getD_zeros xs n i
 
-pub bits-plan : (h : Head) (row : List ℕ) → Bits (plan-bits h row)
-unfolding plan-bits
-bits-plan h row =
-    bits-append
-    (bits-append (bits-append (bits-append (bits-bits months-width _) (bits-bits opening-width _)) (bits-bits sizes-width _)) (bits-bits income-width _))
-    (bits-flat number-width row (lit< tt))
+pub bits_plan : (h : Head) (row : List ℕ) → Bits (plan_bits h row)
+unfolding plan_bits
+bits_plan h row =
+    bits_append
+    (bits_append (bits_append (bits_append (bits_bits months_width _) (bits_bits opening_width _)) (bits_bits sizes_width _)) (bits_bits income_width _))
+    (bits_flat number_width row (lit< tt))
 
 -- the fill is of zeros
 module _ (h : Head) (row : List ℕ) where
-  pub filled_at : (i : ℕ) → get_or (filled-bits h row) i 0 ≡ get_or (plan-bits h row) i 0
-  unfolding filled-bits
-  filled_at i = getD-zeros (plan-bits h row) (8 * byte-length h - bit_length h) i
+  pub filled_at : (i : ℕ) → get_or (filled_bits h row) i 0 ≡ get_or (plan_bits h row) i 0
+  unfolding filled_bits
+  filled_at i = getD_zeros (plan_bits h row) (8 * byte_length h - bit_length h) i
 
-  pub bits-filled : Bits (filled-bits h row)
-  bits-filled = record { bit = λ i. rw (filled_at i) ((bits-plan h row).bit i) }
+  pub bits_filled : Bits (filled_bits h row)
+  bits_filled = record { bit = λ i. rw (filled_at i) ((bits_plan h row).bit i) }

@@ -1,6 +1,6 @@
 // The widths of a plan's fields in bits, and how long a plan is.
 ghost use Rattle.std.specs.Prelude.{◌≡◌};
-ghost use Rattle.model.specs.Format.{bit_length, byte-length};
+ghost use Rattle.model.specs.Format.{bit_length, byte_length};
 ghost use Rattle.model.specs.Refusal.{HeadAccepted};
 
 use model::Head;
@@ -37,7 +37,7 @@ pub fn bit_length(head: Head) -> usize
 // The bytes of a plan, the last one filled up.
 pub fn byte_length(head: Head) -> usize
     requires { HeadAccepted head }
-    ensures { result ≡ byte-length head }
+    ensures { result ≡ byte_length head }
 {
     (bit_length(head) + 7) / 8
 }

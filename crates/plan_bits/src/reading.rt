@@ -1,7 +1,7 @@
 // Reading: what bytes mean, and the first thing wrong with them.
 ghost use Rattle.std.specs.Prelude.{◌≡◌, ◌≤◌, length, drop};
-ghost use Rattle.model.specs.Format.{number-width, head-bits, head_bytes, bits_of, fields, head_of};
-ghost use Rattle.model.specs.Refusal.{plan-refusal, read-refusal};
+ghost use Rattle.model.specs.Format.{number_width, head_bits, head_bytes, bits_of, fields, head_of};
+ghost use Rattle.model.specs.Refusal.{plan_refusal, read_refusal};
 ghost use Rattle.plan_bits.specs.Rows.{RowWithin};
 
 use crate::{bits, format};
@@ -27,7 +27,7 @@ pub fn head_of(bytes: &[u8]) -> Head
 // The numbers that follow the head, as many as the row has.
 pub fn decode(bytes: &[u8], row: &mut [u32])
     requires { RowWithin bytes.now (length row.old) }
-    ensures { row.new ≡ fields number-width (length row.old) (drop head-bits (bits_of bytes.now)) }
+    ensures { row.new ≡ fields number_width (length row.old) (drop head_bits (bits_of bytes.now)) }
 {
     let mut i = 0;
     while i < row.len() {
@@ -39,7 +39,7 @@ pub fn decode(bytes: &[u8], row: &mut [u32])
 // The refusal of a head and the numbers that follow it, which are read into a row of its own.
 fn numbers_refusal(bytes: &[u8], head: Head, count: usize) -> u32
     requires { RowWithin bytes.now count }
-    ensures { result ≡ plan-refusal head (fields number-width count (drop head-bits (bits_of bytes.now))) }
+    ensures { result ≡ plan_refusal head (fields number_width count (drop head_bits (bits_of bytes.now))) }
 {
     let mut row = [0u32; limits::ROW];
     decode(bytes, &mut row[..count]);
@@ -48,7 +48,7 @@ fn numbers_refusal(bytes: &[u8], head: Head, count: usize) -> u32
 
 // The first refusal of the table that fits bytes and a lent row of the given length, 0 if there is none.
 pub fn refusal(bytes: &[u8], room: usize) -> u32
-    ensures { result ≡ read-refusal bytes.now room }
+    ensures { result ≡ read_refusal bytes.now room }
 {
     if bytes.len() < format::HEAD_BYTES {
         return 1;

@@ -1,14 +1,14 @@
 // Writing: the bits of a plan, byte by byte.
 ghost use Rattle.std.specs.Prelude.{◌≡◌, ◌+◌, ◌*◌, ◌≤◌, length, get_or, take, drop};
-ghost use Rattle.model.specs.Format.{number, plan-bits, filled-bits, byte-length, bytes_of};
-ghost use Rattle.model.specs.Refusal.{Accepted, write-refusal};
+ghost use Rattle.model.specs.Format.{number, plan_bits, filled_bits, byte_length, bytes_of};
+ghost use Rattle.model.specs.Refusal.{Accepted, write_refusal};
 
 use crate::{bits, format};
 use model::Head;
 
 // The bit at a position of a plan, 0 past its end.
 fn bit(head: Head, row: &[u32], at: usize) -> u32
-    ensures { result ≡ get_or (plan-bits head row.now) at 0 }
+    ensures { result ≡ get_or (plan_bits head row.now) at 0 }
 {
     if at < format::MONTHS {
         return bits::digit(head.months, format::MONTHS - 1 - at);
@@ -38,8 +38,8 @@ fn bit(head: Head, row: &[u32], at: usize) -> u32
 
 // The byte that starts at a position of a plan.
 fn byte(head: Head, row: &[u32], from: usize) -> u8
-    requires { Accepted head row.now × (from + 8 ≤ 8 * byte-length head) }
-    ensures { result ≡ number (take 8 (drop from (filled-bits head row.now))) }
+    requires { Accepted head row.now × (from + 8 ≤ 8 * byte_length head) }
+    ensures { result ≡ number (take 8 (drop from (filled_bits head row.now))) }
 {
     let mut x: u32 = 0;
     let mut k: usize = 0;
@@ -52,7 +52,7 @@ fn byte(head: Head, row: &[u32], from: usize) -> u8
 
 // The bytes of a plan.
 pub fn encode(head: Head, row: &[u32], bytes: &mut [u8])
-    requires { Accepted head row.now × (length bytes.old ≡ byte-length head) }
+    requires { Accepted head row.now × (length bytes.old ≡ byte_length head) }
     ensures { bytes.new ≡ bytes_of head row.now }
 {
     let mut i = 0;
@@ -64,7 +64,7 @@ pub fn encode(head: Head, row: &[u32], bytes: &mut [u8])
 
 // The first refusal of the table that fits a head, a row and lent bytes of the given length, 0 if there is none.
 pub fn refusal(head: Head, row: &[u32], room: usize) -> u32
-    ensures { result ≡ write-refusal head row.now room }
+    ensures { result ≡ write_refusal head row.now room }
 {
     let refused = plan::plan_refusal(head, row);
     if refused != 0 {

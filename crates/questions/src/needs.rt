@@ -1,7 +1,7 @@
 // What each of the four questions needs, and whether its number is outside the limits.
 ghost use Rattle.std.specs.Prelude.{◌≡◌, false};
-ghost use Rattle.model.specs.MonthRule.{opening-allowed};
-ghost use Rattle.model.specs.Refusal.{HeadAccepted, outside, workspace-needed};
+ghost use Rattle.model.specs.MonthRule.{opening_allowed};
+ghost use Rattle.model.specs.Refusal.{HeadAccepted, outside, workspace_needed};
 ghost use Rattle.questions.specs.Needs.{shape_of};
 
 use model::{Ask, Question, limits};
@@ -21,7 +21,7 @@ pub fn is_outside(question: Question) -> bool
 
 // Whether a question lets the fund open so: only high looks at the opening, which its level caps too.
 pub fn opening_allowed(question: Question, opening: usize) -> bool
-    ensures { result ≡ opening-allowed question opening }
+    ensures { result ≡ opening_allowed question opening }
 {
     match question {
         Question::Survive => true,
@@ -76,7 +76,7 @@ pub fn shape_of(question: Question, width: usize, income: usize) -> Shape
 pub fn workspace_needed(ask: Ask) -> usize
     requires head_accepted { HeadAccepted ask.head }
     requires question_value { outside ask.question ≡ false }
-    ensures { result ≡ workspace-needed ask }
+    ensures { result ≡ workspace_needed ask }
 {
     let head = ask.head;
     let question = ask.question;

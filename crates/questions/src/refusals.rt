@@ -1,6 +1,6 @@
 // When a call that answers two bounds is turned away, in the order of the refusal table.
 ghost use Rattle.std.specs.Prelude.{◌≡◌, false, ◌<◌};
-ghost use Rattle.model.specs.Refusal.{first, asked-checks, workspace-needed, month-outside, deficit-outside, bounds-refusal, ask-refusal, ruin-refusal, deficit-refusal};
+ghost use Rattle.model.specs.Refusal.{first, asked_checks, workspace_needed, month_outside, deficit_outside, bounds_refusal, ask_refusal, ruin_refusal, deficit_refusal};
 ghost use Rattle.model.specs.Refusal.{outside as Refusal·outside};
 
 use crate::needs::{is_outside, workspace_needed};
@@ -8,7 +8,7 @@ use model::{Ask, Head, Question, limits};
 
 // The checks of the plan, then the number of what is asked of it, where that is outside the limits.
 pub fn asked_refusal(head: Head, row: &[u32], number: u32, outside: bool) -> u32
-    ensures { result ≡ first (asked-checks head row.now (number, outside)) }
+    ensures { result ≡ first (asked_checks head row.now (number, outside)) }
 {
     let of_plan = plan::plan_refusal(head, row);
     if of_plan != 0 {
@@ -21,7 +21,7 @@ pub fn asked_refusal(head: Head, row: &[u32], number: u32, outside: bool) -> u32
 pub fn bounds_refusal(ask: Ask, row: &[u32], number: u32, outside: bool, room: usize) -> u32
     requires number_nonzero { 0 < number }
     requires question_value { outside ≡ false → Refusal·outside ask.question ≡ false }
-    ensures { result ≡ bounds-refusal ask.head row.now (number, outside) (workspace-needed ask) room }
+    ensures { result ≡ bounds_refusal ask.head row.now (number, outside) (workspace_needed ask) room }
 {
     let head = ask.head;
     let refused = asked_refusal(head, row, number, outside);
@@ -32,7 +32,7 @@ pub fn bounds_refusal(ask: Ask, row: &[u32], number: u32, outside: bool, room: u
 }
 
 pub fn ask_refusal(ask: Ask, row: &[u32], room: usize) -> u32
-    ensures { result ≡ ask-refusal ask row.now room }
+    ensures { result ≡ ask_refusal ask row.now room }
 {
     let question = ask.question;
     bounds_refusal(ask, row, 10, is_outside(question), room)
@@ -40,7 +40,7 @@ pub fn ask_refusal(ask: Ask, row: &[u32], room: usize) -> u32
 
 // Months are counted from 1.
 fn month_is_outside(head: Head, month: usize) -> bool
-    ensures { result ≡ month-outside head month }
+    ensures { result ≡ month_outside head month }
 {
     if month < 1 {
         return true;
@@ -50,7 +50,7 @@ fn month_is_outside(head: Head, month: usize) -> bool
 
 // In the workspace of survive.
 pub fn ruin_refusal(head: Head, month: usize, row: &[u32], room: usize) -> u32
-    ensures { result ≡ ruin-refusal head month row.now room }
+    ensures { result ≡ ruin_refusal head month row.now room }
 {
     let question = Question::Survive;
     bounds_refusal(
@@ -64,7 +64,7 @@ pub fn ruin_refusal(head: Head, month: usize, row: &[u32], room: usize) -> u32
 
 // A month of the plan, and a level before it and a deficit within their limit.
 fn deficit_is_outside(head: Head, month: usize, level: usize, deficit: usize) -> bool
-    ensures { result ≡ deficit-outside head month level deficit }
+    ensures { result ≡ deficit_outside head month level deficit }
 {
     if month_is_outside(head, month) {
         return true;
@@ -84,7 +84,7 @@ pub fn deficit_refusal(
     row: &[u32],
     room: usize,
 ) -> u32
-    ensures { result ≡ deficit-refusal head month level deficit row.now room }
+    ensures { result ≡ deficit_refusal head month level deficit row.now room }
 {
     let question = Question::Survive;
     bounds_refusal(

@@ -1,12 +1,12 @@
 // The quoting desk's line: from the bytes of a plan and a target to the least opening that reaches it, or why there is none.
 ghost use Rattle.std.specs.Prelude.{◌≡◌, ◌≤◌, ◌++◌, length, take, drop};
-ghost use Rattle.model.specs.Limits.{survival-room};
-ghost use Rattle.model.specs.Plan.{row-length};
+ghost use Rattle.model.specs.Limits.{survival_room};
+ghost use Rattle.model.specs.Plan.{row_length};
 ghost use Rattle.model.specs.Refusal.{Accepted};
-ghost use Rattle.opening_search.specs.Answers.{least-answer};
+ghost use Rattle.opening_search.specs.Answers.{least_answer};
 ghost use Rattle.text.specs.Text.{Appended};
-ghost use Rattle.report_lines.specs.Lines.{line-room};
-ghost use Rattle.quote.specs.Quote.{answer-line, quote-of};
+ghost use Rattle.report_lines.specs.Lines.{line_room};
+ghost use Rattle.quote.specs.Quote.{answer_line, quote_of};
 
 use model::Head;
 use opening_search::LeastAnswer;
@@ -14,22 +14,22 @@ use plan::lengths::row_length;
 use report_lines::lines::{put_numbered, put_refused};
 use rooms::blank_survival_workspace;
 
-// Room for every line: the proof of `quote` fails where it is less than `line-room`.
+// Room for every line: the proof of `quote` fails where it is less than `line_room`.
 pub const TEXT: usize = 128;
 
 // Writes the line for a plan's bytes and a target to the start of the text, past which nothing changes, and answers how long it is. `within` is for a
 // caller that takes the first r bytes.
 pub fn quote(bytes: &[u8], target: u32, text: &mut [u8; TEXT]) -> usize
-    ensures answered { result ≡ length (quote-of bytes.now target) }
-    ensures written { text.new ≡ quote-of bytes.now target ++ drop result text.old }
+    ensures answered { result ≡ length (quote_of bytes.now target) }
+    ensures written { text.new ≡ quote_of bytes.now target ++ drop result text.old }
     ensures within { (result ≤ length text.new) × (result ≡ length (take result text.new)) }
 {
     put_quote(text, bytes, target)
 }
 
 fn put_quote(text: &mut [u8], bytes: &[u8], target: u32) -> usize
-    requires { line-room ≤ length text.old }
-    ensures { Appended text.old 0 (quote-of bytes.now target) text.new result }
+    requires { line_room ≤ length text.old }
+    ensures { Appended text.old 0 (quote_of bytes.now target) text.new result }
 {
     let plan = codec::read_plan(bytes);
     let refusal = plan.refusal;
@@ -42,8 +42,8 @@ fn put_quote(text: &mut [u8], bytes: &[u8], target: u32) -> usize
 
 // The answer for an accepted plan, whose row is the first part of the lent one.
 fn least_of(head: Head, row: &[u32], target: u32) -> LeastAnswer
-    requires { Accepted head (take (row-length head) row.now) }
-    ensures { result ≡ least-answer head (take (row-length head) row.now) target survival-room }
+    requires { Accepted head (take (row_length head) row.now) }
+    ensures { result ≡ least_answer head (take (row_length head) row.now) target survival_room }
 {
     let used = row_length(head);
     let mut workspace = blank_survival_workspace();
@@ -51,8 +51,8 @@ fn least_of(head: Head, row: &[u32], target: u32) -> LeastAnswer
 }
 
 fn put_answer(text: &mut [u8], answer: LeastAnswer) -> usize
-    requires { line-room ≤ length text.old }
-    ensures { Appended text.old 0 (answer-line answer) text.new result }
+    requires { line_room ≤ length text.old }
+    ensures { Appended text.old 0 (answer_line answer) text.new result }
 {
     let refusal = answer.refusal;
     let lower = answer.lower as u64;

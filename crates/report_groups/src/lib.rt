@@ -1,11 +1,11 @@
 // The groups of lines of the report: those of each question, and those of the count row.
 ghost use Rattle.std.specs.Prelude.{◌≡◌, ◌+◌, ◌*◌, ◌<◌, ◌≤◌, length};
-ghost use Rattle.model.specs.Plan.{plan-of};
+ghost use Rattle.model.specs.Plan.{plan_of};
 ghost use Rattle.model.specs.Refusal.{HeadAccepted, Accepted};
 ghost use Rattle.text.specs.Text.{joined, Appended};
 ghost use Rattle.report_lines.specs.Asking.{Answerable, Cleared};
-ghost use Rattle.report_groups.specs.Groups.{lines-need, group-needs, question-lines, line-range, group_lines, claims-at, claims-lines, LinesFit, most-lines};
-ghost use Rattle.report_lines.specs.Lines.{question-line, line-room};
+ghost use Rattle.report_groups.specs.Groups.{lines_need, group_needs, question_lines, line_range, group_lines, claims_at, claims_lines, LinesFit, most_lines};
+ghost use Rattle.report_lines.specs.Lines.{question_line, line_room};
 ghost use Rattle.report_groups.specs.Groups.{numbered as Lines·numbered};
 
 use model::{Head, Question, limits};
@@ -23,7 +23,7 @@ pub struct LineRange {
 
 pub fn line_range(question: Question, head: Head) -> LineRange
     requires { HeadAccepted head }
-    ensures { result ≡ line-range question head }
+    ensures { result ≡ line_range question head }
 {
     match question {
         Question::Survive => LineRange { first: 0, count: 1 },
@@ -52,9 +52,9 @@ pub fn put_group(
     workspace: &mut [u32],
 ) -> usize
     requires answerable { Answerable head row.now workspace.old }
-    requires line_room_in_bounds { at + most-lines question * line-room ≤ length text.old }
-    ensures written { Appended text.old at (group_lines (question-line (plan-of head row.now)) head question) text.new result }
-    ensures cleared { Cleared (group-needs head question) workspace.old workspace.new }
+    requires line_room_in_bounds { at + most_lines question * line_room ≤ length text.old }
+    ensures written { Appended text.old at (group_lines (question_line (plan_of head row.now)) head question) text.new result }
+    ensures cleared { Cleared (group_needs head question) workspace.old workspace.new }
 {
     let range = line_range(question, head);
     put_range(
@@ -82,8 +82,8 @@ fn put_range(
 ) -> usize
     requires answerable { Answerable head row.now workspace.old }
     requires lines_fit { LinesFit question first count at text.old }
-    ensures written { Appended text.old at (question-lines (question-line (plan-of head row.now)) question first count) text.new result }
-    ensures cleared { Cleared (lines-need head question first count) workspace.old workspace.new }
+    ensures written { Appended text.old at (question_lines (question_line (plan_of head row.now)) question first count) text.new result }
+    ensures cleared { Cleared (lines_need head question first count) workspace.old workspace.new }
 {
     let mut end = at;
     let mut i = 0;
@@ -116,8 +116,8 @@ pub fn numbered(question: Question, x: usize) -> Question
 // All lines of the count row.
 pub fn put_counts(text: &mut [u8], at: usize, head: Head, row: &[u32]) -> usize
     requires accepted { Accepted head row.now }
-    requires line_room_in_bounds { at + (head.months + 1) * line-room ≤ length text.old }
-    ensures { Appended text.old at (claims-lines (plan-of head row.now) head.months) text.new result }
+    requires line_room_in_bounds { at + (head.months + 1) * line_room ≤ length text.old }
+    ensures { Appended text.old at (claims_lines (plan_of head row.now) head.months) text.new result }
 {
     let counts = answers::count_row_of(head, row);
     let lower = counts.lower;
@@ -128,8 +128,8 @@ pub fn put_counts(text: &mut [u8], at: usize, head: Head, row: &[u32]) -> usize
 // The lines of the count row, for no claims to as many as there are months.
 fn put_claims(text: &mut [u8], at: usize, months: usize, lower: &[u32], upper: &[u32]) -> usize
     requires months_in_bounds { (months < length lower.now) × (months < length upper.now) }
-    requires line_room_in_bounds { at + (months + 1) * line-room ≤ length text.old }
-    ensures { Appended text.old at (joined (months + 1) (claims-at lower.now upper.now)) text.new result }
+    requires line_room_in_bounds { at + (months + 1) * line_room ≤ length text.old }
+    ensures { Appended text.old at (joined (months + 1) (claims_at lower.now upper.now)) text.new result }
 {
     let mut end = at;
     let mut k = 0;

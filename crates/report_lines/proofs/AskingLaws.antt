@@ -11,90 +11,90 @@ use Rattle.model.specs.declared.Head.{Head}
 use Rattle.model.specs.declared.Ask.{Ask}
 use Rattle.model.specs.declared.Question.{Question}
 use Rattle.model.specs.declared.Question.TheVariants.{Survive}
-use Rattle.model.specs.Limits.{workspace-room}
-use Rattle.model.specs.Plan.{plan-of}
-use Rattle.model.specs.Bounds.{lower, upper, ruin-lower, ruin-upper}
-use Rattle.model.specs.Refusal.{outside, month-outside, workspace-needed, survival-workspace, bounds-refusal}
-use Rattle.model.proofs.Facts.{accepted-head}
-use Rattle.model.proofs.Rooms.{workspace-fits}
+use Rattle.model.specs.Limits.{workspace_room}
+use Rattle.model.specs.Plan.{plan_of}
+use Rattle.model.specs.Bounds.{lower, upper, ruin_lower, ruin_upper}
+use Rattle.model.specs.Refusal.{outside, month_outside, workspace_needed, survival_workspace, bounds_refusal}
+use Rattle.model.proofs.Facts.{accepted_head}
+use Rattle.model.proofs.Rooms.{workspace_fits}
 use Rattle.model.proofs.MemoryLaws.{filled, zero_more}
-use Rattle.engine.specs.Answers.{bounds-answer, answer, workspace-after, ruin-answer, ruin-workspace-after}
-use Rattle.model.specs.Memory.{zero-first, cleared-after}
-use Rattle.questions.proofs.RefusalLaws.{not-refused}
-use Rattle.report_lines.specs.Asking.{Answerable, question-needs, workspace-left, largest-of, Cleared}
+use Rattle.engine.specs.Answers.{bounds_answer, answer, workspace_after, ruin_answer, ruin_workspace_after}
+use Rattle.model.specs.Memory.{zero_first, cleared_after}
+use Rattle.questions.proofs.RefusalLaws.{not_refused}
+use Rattle.report_lines.specs.Asking.{Answerable, question_needs, workspace_left, largest_of, Cleared}
 
 -- no question asked
-pub nothing-cleared : (ws : List ℕ) → Cleared 0 ws ws
-nothing-cleared ws = record { inside = omega arith; is = refl }
+pub nothing_cleared : (ws : List ℕ) → Cleared 0 ws ws
+nothing_cleared ws = record { inside = omega arith; is = refl }
 
-pub cleared-none : (f : ℕ → ℕ) (ws : List ℕ) → Cleared (largest-of 0 f) ws ws
-unfolding largest-of
-cleared-none f ws = nothing-cleared ws
+pub cleared_none : (f : ℕ → ℕ) (ws : List ℕ) → Cleared (largest_of 0 f) ws ws
+unfolding largest_of
+cleared_none f ws = nothing_cleared ws
 
 -- some questions after others, and one more of those that are asked one by one
 pub cleared_more : {m n : ℕ} {b₀ b₁ b₂ : List ℕ} → Cleared m b₀ b₁ → Cleared n b₁ b₂ → Cleared (max n m) b₀ b₂
 cleared_more {m} {n} {b₀} p q =
-    record { inside = max-le q.inside p.inside; is = q.is ∙ ap (zero-first n) p.is ∙ zero_more n m b₀ }
+    record { inside = max-le q.inside p.inside; is = q.is ∙ ap (zero_first n) p.is ∙ zero_more n m b₀ }
 
-pub cleared-turn : (f : ℕ → ℕ) {i : ℕ} {b₀ b₁ b₂ : List ℕ} → Cleared (largest-of i f) b₀ b₁ → Cleared (f i) b₁ b₂ → Cleared (largest-of (i + 1) f) b₀ b₂
-unfolding largest-of
-cleared-turn f p q = rw add-one (cleared_more p q)
+pub cleared_turn : (f : ℕ → ℕ) {i : ℕ} {b₀ b₁ b₂ : List ℕ} → Cleared (largest_of i f) b₀ b₁ → Cleared (f i) b₁ b₂ → Cleared (largest_of (i + 1) f) b₀ b₂
+unfolding largest_of
+cleared_turn f p q = rw add-one (cleared_more p q)
 
 -- all of them asked
-pub cleared-all : (f : ℕ → ℕ) {i n : ℕ} {b b' : List ℕ} → i ≡ n → Cleared (largest-of i f) b b' → Cleared (largest-of n f) b b'
-cleared-all f e p = rw (← e) p
+pub cleared_all : (f : ℕ → ℕ) {i n : ℕ} {b b' : List ℕ} → i ≡ n → Cleared (largest_of i f) b b' → Cleared (largest_of n f) b b'
+cleared_all f e p = rw (← e) p
 
 -- a workspace with room for every question keeps its length, and the next can be asked
-pub cleared-long : {n : ℕ} {b b' : List ℕ} → workspace-room ≤ length b → Cleared n b b' → length b' ≡ length b
-cleared-long room p =
+pub cleared_long : {n : ℕ} {b b' : List ℕ} → workspace_room ≤ length b → Cleared n b b' → length b' ≡ length b
+cleared_long room p =
     let inside = p.inside in
     ap length p.is ∙ (simp (length-append, length-replicate, length-drop) (omega arith))
 
-pub answerable-still : {h : Head} {row : List ℕ} {n : ℕ} {b b' : List ℕ} → Answerable h row b → Cleared n b b' → Answerable h row b'
-answerable-still a p = record { accepted = a.accepted; room = omega (arith, cleared-long a.room p, a.room) }
+pub answerable_still : {h : Head} {row : List ℕ} {n : ℕ} {b b' : List ℕ} → Answerable h row b → Cleared n b b' → Answerable h row b'
+answerable_still a p = record { accepted = a.accepted; room = omega (arith, cleared_long a.room p, a.room) }
 
 -- a call that answers bounds, within the limits and with a workspace that no question passes
-module _ {h : Head} {row ws : List ℕ} (a : Answerable h row ws) (o : Bool) (within : o ≡ false) (needed : ℕ) (fits : needed ≤ workspace-room) where
-  nothing-refuses : bounds-refusal h row (10, o) needed (length ws) ≡ 0
-  nothing-refuses = not-refused 10 (omega arith) (record { accepted = a.accepted; inside = within; enough = omega (arith, fits, a.room) })
+module _ {h : Head} {row ws : List ℕ} (a : Answerable h row ws) (o : Bool) (within : o ≡ false) (needed : ℕ) (fits : needed ≤ workspace_room) where
+  nothing_refuses : bounds_refusal h row (10, o) needed (length ws) ≡ 0
+  nothing_refuses = not_refused 10 (omega arith) (record { accepted = a.accepted; inside = within; enough = omega (arith, fits, a.room) })
 
-  given : (low high : ℕ) → bounds-answer (bounds-refusal h row (10, o) needed (length ws)) low high ≡ record { refusal = 0; lower = low; upper = high }
-  unfolding bounds-answer
-  given low high = rw nothing-refuses
+  given : (low high : ℕ) → bounds_answer (bounds_refusal h row (10, o) needed (length ws)) low high ≡ record { refusal = 0; lower = low; upper = high }
+  unfolding bounds_answer
+  given low high = rw nothing_refuses
 
-  leaves : cleared-after (bounds-refusal h row (10, o) needed (length ws)) needed ws ≡ zero-first needed ws
-  leaves = filled _ needed _ ws nothing-refuses
+  leaves : cleared_after (bounds_refusal h row (10, o) needed (length ws)) needed ws ≡ zero_first needed ws
+  leaves = filled _ needed _ ws nothing_refuses
 
 -- one question
 module _ {h : Head} {row ws : List ℕ} (a : Answerable h row ws) (q : Question) (within : outside q ≡ false) where
   abbrev ask : Ask
   ask = record { head = h; question = q }
 
-  needed-fits : workspace-needed ask ≤ workspace-room
-  needed-fits = workspace-fits ask (accepted-head h row a.accepted) within
+  needed_fits : workspace_needed ask ≤ workspace_room
+  needed_fits = workspace_fits ask (accepted_head h row a.accepted) within
 
-  pub asked : answer ask row (length ws) ≡ record { refusal = 0; lower = lower (plan-of h row) q; upper = upper (plan-of h row) q }
+  pub asked : answer ask row (length ws) ≡ record { refusal = 0; lower = lower (plan_of h row) q; upper = upper (plan_of h row) q }
   unfolding answer
-  asked = given a (outside q) within (workspace-needed ask) needed-fits _ _
+  asked = given a (outside q) within (workspace_needed ask) needed_fits _ _
 
-  pub asked-leaves : workspace-after ask row ws ≡ workspace-left h q ws
-  asked-leaves = leaves a (outside q) within (workspace-needed ask) needed-fits
+  pub asked_leaves : workspace_after ask row ws ≡ workspace_left h q ws
+  asked_leaves = leaves a (outside q) within (workspace_needed ask) needed_fits
 
-  pub asked-clears : {ws' : List ℕ} → ws' ≡ workspace-left h q ws → Cleared (question-needs h q) ws ws'
-  asked-clears e = record { inside = needed-fits; is = e }
+  pub asked_clears : {ws' : List ℕ} → ws' ≡ workspace_left h q ws → Cleared (question_needs h q) ws ws'
+  asked_clears e = record { inside = needed_fits; is = e }
 
 -- ruin in a month, in the workspace of survive
-survive-inside : outside Survive ≡ false
+survive_inside : outside Survive ≡ false
 unfolding outside
-survive-inside = refl
+survive_inside = refl
 
-module _ {h : Head} {row ws : List ℕ} (a : Answerable h row ws) (t : ℕ) (within : month-outside h t ≡ false) where
-  pub ruined : ruin-answer h t row (length ws) ≡ record { refusal = 0; lower = ruin-lower (plan-of h row) t; upper = ruin-upper (plan-of h row) t }
-  unfolding ruin-answer
-  ruined = given a (month-outside h t) within (survival-workspace h) (needed-fits a Survive survive-inside) _ _
+module _ {h : Head} {row ws : List ℕ} (a : Answerable h row ws) (t : ℕ) (within : month_outside h t ≡ false) where
+  pub ruined : ruin_answer h t row (length ws) ≡ record { refusal = 0; lower = ruin_lower (plan_of h row) t; upper = ruin_upper (plan_of h row) t }
+  unfolding ruin_answer
+  ruined = given a (month_outside h t) within (survival_workspace h) (needed_fits a Survive survive_inside) _ _
 
-  pub ruined-leaves : ruin-workspace-after h t row ws ≡ workspace-left h Survive ws
-  ruined-leaves = leaves a (month-outside h t) within (survival-workspace h) (needed-fits a Survive survive-inside)
+  pub ruined_leaves : ruin_workspace_after h t row ws ≡ workspace_left h Survive ws
+  ruined_leaves = leaves a (month_outside h t) within (survival_workspace h) (needed_fits a Survive survive_inside)
 
-  pub ruined-clears : {ws' : List ℕ} → ws' ≡ workspace-left h Survive ws → Cleared (question-needs h Survive) ws ws'
-  ruined-clears e = asked-clears a Survive survive-inside e
+  pub ruined_clears : {ws' : List ℕ} → ws' ≡ workspace_left h Survive ws → Cleared (question_needs h Survive) ws ws'
+  ruined_clears e = asked_clears a Survive survive_inside e

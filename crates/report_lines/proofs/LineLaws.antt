@@ -7,45 +7,45 @@ use Rattle.model.specs.declared.Head.{Head}
 use Rattle.model.specs.declared.Question.{Question}
 use Rattle.model.specs.declared.Question.TheVariants.{Survive, Both, High, Low}
 use Rattle.model.specs.Limits.{places}
-use Rattle.model.specs.Plan.{Plan, plan-of}
+use Rattle.model.specs.Plan.{Plan, plan_of}
 use Rattle.model.specs.Refusal.{Accepted}
-use Rattle.model.proofs.Counts.{length-tabulate, get_d_tabulate}
-use Rattle.count_row.specs.Answers.{count-answer, count-rows}
+use Rattle.model.proofs.Counts.{length_tabulate, get_d_tabulate}
+use Rattle.count_row.specs.Answers.{count_answer, count_rows}
 use Rattle.text.specs.Text.{ascii, Appended}
-use Rattle.text.proofs.TextLaws.{entry-at-most, line-at-most}
-use Rattle.report_lines.specs.Lines.{head-line, head-room, word_of, bounds-line, question-line, line-room, CountsOf}
+use Rattle.text.proofs.TextLaws.{entry_at_most, line_at_most}
+use Rattle.report_lines.specs.Lines.{head_line, head_room, word_of, bounds_line, question_line, line_room, CountsOf}
 
-pub bounds-short : (q : Question) (low high : ℕ) → length (bounds-line q low high) ≤ line-room
-bounds-short Survive low high = omega (arith, line-at-most (word_of Survive) (low ∷ high ∷ []))
-bounds-short (Both k) low high = omega (arith, line-at-most (word_of (Both k)) (k ∷ low ∷ high ∷ []))
-bounds-short (High L) low high = omega (arith, line-at-most (word_of (High L)) (L ∷ low ∷ high ∷ []))
-bounds-short (Low L) low high = omega (arith, line-at-most (word_of (Low L)) (L ∷ low ∷ high ∷ []))
+pub bounds_short : (q : Question) (low high : ℕ) → length (bounds_line q low high) ≤ line_room
+bounds_short Survive low high = omega (arith, line_at_most (word_of Survive) (low ∷ high ∷ []))
+bounds_short (Both k) low high = omega (arith, line_at_most (word_of (Both k)) (k ∷ low ∷ high ∷ []))
+bounds_short (High L) low high = omega (arith, line_at_most (word_of (High L)) (L ∷ low ∷ high ∷ []))
+bounds_short (Low L) low high = omega (arith, line_at_most (word_of (Low L)) (L ∷ low ∷ high ∷ []))
 
-pub question-short : (p : Plan) (q : Question) → length (question-line p q) ≤ line-room
-unfolding question-line
-question-short p q = bounds-short q _ _
+pub question_short : (p : Plan) (q : Question) → length (question_line p q) ≤ line_room
+unfolding question_line
+question_short p q = bounds_short q _ _
 
 -- where the head line ends
-pub head-ends : (h : Head) {b b' : List ℕ} {at end : ℕ} → Appended b at (head-line h) b' end → end ≤ at + head-room
-unfolding head-line
-head-ends h e =
+pub head_ends : (h : Head) {b b' : List ℕ} {at end : ℕ} → Appended b at (head_line h) b' end → end ≤ at + head_room
+unfolding head_line
+head_ends h e =
     omega (
       arith,
       simp length-append at e.ends,
-      entry-at-most (ascii "months") (h.months ∷ []),
-      entry-at-most (ascii " opening") (h.opening ∷ []),
-      entry-at-most (ascii " sizes") (h.sizes ∷ []),
-      line-at-most (ascii " income") (h.income ∷ []),
+      entry_at_most (ascii "months") (h.months ∷ []),
+      entry_at_most (ascii " opening") (h.opening ∷ []),
+      entry_at_most (ascii " sizes") (h.sizes ∷ []),
+      line_at_most (ascii " income") (h.income ∷ []),
     )
 
 -- What counting answers on an accepted plan
-pub counted : (h : Head) (row : List ℕ) → Accepted h row → CountsOf (plan-of h row) (count-answer h row).row.lower (count-answer h row).row.upper
-unfolding count-answer count-rows
+pub counted : (h : Head) (row : List ℕ) → Accepted h row → CountsOf (plan_of h row) (count_answer h row).row.lower (count_answer h row).row.upper
+unfolding count_answer count_rows
 counted h row accepted =
     rw accepted
     (record {
-      lowers-long = length-tabulate places _;
-      uppers-long = length-tabulate places _;
-      lowers-are = get_d_tabulate places _;
-      uppers-are = get_d_tabulate places _;
+      lowers_long = length_tabulate places _;
+      uppers_long = length_tabulate places _;
+      lowers_are = get_d_tabulate places _;
+      uppers_are = get_d_tabulate places _;
     })

@@ -1,10 +1,10 @@
 // The calls of the engine on an accepted plan, with enough workspace: they do not refuse.
 ghost use Rattle.std.specs.Prelude.{◌≡◌, false};
 ghost use Rattle.model.specs.declared.Question.TheVariants.{Survive};
-ghost use Rattle.model.specs.Plan.{plan-of};
-ghost use Rattle.model.specs.Refusal.{Accepted, outside, month-outside};
-ghost use Rattle.report_lines.specs.Asking.{Answerable, workspace-left};
-ghost use Rattle.report_lines.specs.Lines.{bounds_of, ruin-bounds-of, CountsOf};
+ghost use Rattle.model.specs.Plan.{plan_of};
+ghost use Rattle.model.specs.Refusal.{Accepted, outside, month_outside};
+ghost use Rattle.report_lines.specs.Asking.{Answerable, workspace_left};
+ghost use Rattle.report_lines.specs.Lines.{bounds_of, ruin_bounds_of, CountsOf};
 
 use count_row::CountRow;
 use model::{Ask, Bounds, Head, Question};
@@ -12,8 +12,8 @@ use model::{Ask, Bounds, Head, Question};
 pub fn bounds_of(head: Head, question: Question, row: &[u32], workspace: &mut [u32]) -> Bounds
     requires answerable { Answerable head row.now workspace.old }
     requires question_value { outside question ≡ false }
-    ensures answered { result ≡ bounds_of (plan-of head row.now) question }
-    ensures cleared { workspace.new ≡ workspace-left head question workspace.old }
+    ensures answered { result ≡ bounds_of (plan_of head row.now) question }
+    ensures cleared { workspace.new ≡ workspace_left head question workspace.old }
 {
     let answer = engine::ask(Ask { head, question }, row, workspace);
     Bounds {
@@ -24,9 +24,9 @@ pub fn bounds_of(head: Head, question: Question, row: &[u32], workspace: &mut [u
 
 pub fn ruin_of(head: Head, month: usize, row: &[u32], workspace: &mut [u32]) -> Bounds
     requires answerable { Answerable head row.now workspace.old }
-    requires month_value { month-outside head month ≡ false }
-    ensures answered { result ≡ ruin-bounds-of (plan-of head row.now) month }
-    ensures cleared { workspace.new ≡ workspace-left head Survive workspace.old }
+    requires month_value { month_outside head month ≡ false }
+    ensures answered { result ≡ ruin_bounds_of (plan_of head row.now) month }
+    ensures cleared { workspace.new ≡ workspace_left head Survive workspace.old }
 {
     let answer = engine::ruin_in_month(head, month, row, workspace);
     Bounds {
@@ -37,7 +37,7 @@ pub fn ruin_of(head: Head, month: usize, row: &[u32], workspace: &mut [u32]) -> 
 
 pub fn count_row_of(head: Head, row: &[u32]) -> CountRow
     requires { Accepted head row.now }
-    ensures { CountsOf (plan-of head row.now) result.lower result.upper }
+    ensures { CountsOf (plan_of head row.now) result.lower result.upper }
 {
     let answer = count_row::count_claims(head, row);
     let counts = answer.row;

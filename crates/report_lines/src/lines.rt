@@ -1,18 +1,18 @@
 // The lines of the report, appended to a text.
 ghost use Rattle.std.specs.Prelude.{◌≡◌, false, ◌+◌, ◌≤◌, length};
-ghost use Rattle.model.specs.Plan.{plan-of};
+ghost use Rattle.model.specs.Plan.{plan_of};
 ghost use Rattle.model.specs.Refusal.{outside};
 ghost use Rattle.text.specs.Text.{Appended};
-ghost use Rattle.report_lines.specs.Asking.{Answerable, workspace-left};
-ghost use Rattle.report_lines.specs.Lines.{head-line, head-room, bounds-line, question-line, numbered-line, refused-line, line-room, number-room};
+ghost use Rattle.report_lines.specs.Asking.{Answerable, workspace_left};
+ghost use Rattle.report_lines.specs.Lines.{head_line, head_room, bounds_line, question_line, numbered_line, refused_line, line_room, number_room};
 
 use crate::answers;
 use model::{Head, Question};
 use text::{put_entry, put_line};
 
 pub fn put_head(text: &mut [u8], at: usize, head: Head) -> usize
-    requires { at + head-room ≤ length text.old }
-    ensures { Appended text.old at (head-line head) text.new result }
+    requires { at + head_room ≤ length text.old }
+    ensures { Appended text.old at (head_line head) text.new result }
 {
     let months = [head.months as u64];
     let opening = [head.opening as u64];
@@ -26,8 +26,8 @@ pub fn put_head(text: &mut [u8], at: usize, head: Head) -> usize
 
 // A question's line, from its bounds.
 pub fn put_bounds(text: &mut [u8], at: usize, question: Question, lower: u64, upper: u64) -> usize
-    requires { at + line-room ≤ length text.old }
-    ensures { Appended text.old at (bounds-line question lower upper) text.new result }
+    requires { at + line_room ≤ length text.old }
+    ensures { Appended text.old at (bounds_line question lower upper) text.new result }
 {
     match question {
         Question::Survive => put_line(text, at, b"survive", &[lower, upper]),
@@ -48,9 +48,9 @@ pub fn put_question(
 ) -> usize
     requires answerable { Answerable head row.now workspace.old }
     requires question_value { outside question ≡ false }
-    requires line_room_in_bounds { at + line-room ≤ length text.old }
-    ensures written { Appended text.old at (question-line (plan-of head row.now) question) text.new result }
-    ensures cleared { workspace.new ≡ workspace-left head question workspace.old }
+    requires line_room_in_bounds { at + line_room ≤ length text.old }
+    ensures written { Appended text.old at (question_line (plan_of head row.now) question) text.new result }
+    ensures cleared { workspace.new ≡ workspace_left head question workspace.old }
 {
     let bounds = answers::bounds_of(head, question, row, workspace);
     put_bounds(text, at, question, bounds.lower as u64, bounds.upper as u64)
@@ -65,16 +65,16 @@ pub fn put_numbered(
     lower: u64,
     upper: u64,
 ) -> usize
-    requires { at + length word.now + number-room ≤ length text.old }
-    ensures { Appended text.old at (numbered-line word.now number lower upper) text.new result }
+    requires { at + length word.now + number_room ≤ length text.old }
+    ensures { Appended text.old at (numbered_line word.now number lower upper) text.new result }
 {
     put_line(text, at, word, &[number as u64, lower, upper])
 }
 
 // The line of a refused plan, in the place of its report or its quote.
 pub fn put_refused(text: &mut [u8], at: usize, refusal: u32) -> usize
-    requires { at + line-room ≤ length text.old }
-    ensures { Appended text.old at (refused-line refusal) text.new result }
+    requires { at + line_room ≤ length text.old }
+    ensures { Appended text.old at (refused_line refusal) text.new result }
 {
     put_line(text, at, b"refused", &[refusal as u64])
 }

@@ -2,44 +2,44 @@
 use Rattle.std.specs.Prelude.{ℕ, ◌+◌, ◌*◌, max, cond, List, ◌++◌, eqb}
 use Rattle.model.specs.declared.Head.{Head}
 use Rattle.model.specs.declared.Question.TheVariants.{Survive, Both, High, Low}
-use Rattle.model.specs.Limits.{max-months, row_room}
-use Rattle.model.specs.Plan.{Plan, plan-of}
+use Rattle.model.specs.Limits.{max_months, row_room}
+use Rattle.model.specs.Plan.{Plan, plan_of}
 use Rattle.model.specs.Format.{head_of, row_of}
-use Rattle.model.specs.Refusal.{read-refusal}
-use Rattle.report_groups.specs.Groups.{groups-need, claims-lines, group_lines, most-lines}
-use Rattle.ruin_lines.specs.Lines.{ruins-need, ruin-lines}
-use Rattle.report_lines.specs.Lines.{head-line, question-line, refused-line, head-room, line-room}
+use Rattle.model.specs.Refusal.{read_refusal}
+use Rattle.report_groups.specs.Groups.{groups_need, claims_lines, group_lines, most_lines}
+use Rattle.ruin_lines.specs.Lines.{ruins_need, ruin_lines}
+use Rattle.report_lines.specs.Lines.{head_line, question_line, refused_line, head_room, line_room}
 
 -- the report of an accepted plan
-unfoldable pub plan-report : Head → List ℕ → List ℕ
-plan-report h row =
-    head-line h
-    ++ group_lines (question-line p) h Survive
-    ++ claims-lines p h.months
-    ++ group_lines (question-line p) h (Both 0)
-    ++ group_lines (question-line p) h (High 0)
-    ++ group_lines (question-line p) h (Low 0)
-    ++ ruin-lines p
+unfoldable pub plan_report : Head → List ℕ → List ℕ
+plan_report h row =
+    head_line h
+    ++ group_lines (question_line p) h Survive
+    ++ claims_lines p h.months
+    ++ group_lines (question_line p) h (Both 0)
+    ++ group_lines (question_line p) h (High 0)
+    ++ group_lines (question_line p) h (Low 0)
+    ++ ruin_lines p
   where
     p : Plan
-    p = plan-of h row
+    p = plan_of h row
 
 -- room for the longest report
-abbrev pub text-room : ℕ
-text-room =
-    head-room
-    + (most-lines Survive + (max-months + 1) + most-lines (Both 0) + most-lines (High 0) + most-lines (Low 0) + (max-months + 1))
-    * line-room
+abbrev pub text_room : ℕ
+text_room =
+    head_room
+    + (most_lines Survive + (max_months + 1) + most_lines (Both 0) + most_lines (High 0) + most_lines (Low 0) + (max_months + 1))
+    * line_room
 
-unfoldable pub report-of : List ℕ → List ℕ
-report-of bytes =
-    cond (eqb (read-refusal bytes row_room) 0)
-    (plan-report (head_of bytes) (row_of bytes))
-    (refused-line (read-refusal bytes row_room))
+unfoldable pub report_of : List ℕ → List ℕ
+report_of bytes =
+    cond (eqb (read_refusal bytes row_room) 0)
+    (plan_report (head_of bytes) (row_of bytes))
+    (refused_line (read_refusal bytes row_room))
 
 -- what the questions of a report need of the workspace: those of an accepted plan, group by group, and none of a refused one
-abbrev pub plan-needs : Head → ℕ
-plan-needs h = max (ruins-need h) (groups-need h)
+abbrev pub plan_needs : Head → ℕ
+plan_needs h = max (ruins_need h) (groups_need h)
 
-unfoldable pub report-needs : List ℕ → ℕ
-report-needs bytes = cond (eqb (read-refusal bytes row_room) 0) (plan-needs (head_of bytes)) 0
+unfoldable pub report_needs : List ℕ → ℕ
+report_needs bytes = cond (eqb (read_refusal bytes row_room) 0) (plan_needs (head_of bytes)) 0

@@ -2,13 +2,13 @@
 // give.
 ghost use Rattle.std.specs.Prelude.{◌≡◌, false, ◌+◌, ◌*◌, ◌^◌, ◌<◌, ◌≤◌, length};
 ghost use Rattle.model.specs.declared.Question.TheVariants.{Survive};
-ghost use Rattle.model.specs.Plan.{plan-of};
-ghost use Rattle.model.specs.Bounds.{ruin-lower, ruin-upper};
-ghost use Rattle.model.specs.Refusal.{month-outside};
+ghost use Rattle.model.specs.Plan.{plan_of};
+ghost use Rattle.model.specs.Bounds.{ruin_lower, ruin_upper};
+ghost use Rattle.model.specs.Refusal.{month_outside};
 ghost use Rattle.text.specs.Text.{Appended};
-ghost use Rattle.report_lines.specs.Asking.{Answerable, workspace-left, Cleared};
-ghost use Rattle.ruin_lines.specs.Lines.{ruins-need, ruin-line, ruin-lines};
-ghost use Rattle.report_lines.specs.Lines.{line-room};
+ghost use Rattle.report_lines.specs.Asking.{Answerable, workspace_left, Cleared};
+ghost use Rattle.ruin_lines.specs.Lines.{ruins_need, ruin_line, ruin_lines};
+ghost use Rattle.report_lines.specs.Lines.{line_room};
 
 use model::Head;
 use report_lines::answers::ruin_of;
@@ -33,11 +33,11 @@ fn put_ruin(
     workspace: &mut [u32],
 ) -> RuinLines
     requires answerable { Answerable head row.now workspace.old }
-    requires month_value { month-outside head month ≡ false }
-    requires line_room_in_bounds { (lines.end + line-room ≤ length text.old) × (lines.lower < 2 ^ 63) × (lines.upper < 2 ^ 63) }
-    ensures written { Appended text.old lines.end (ruin-line month (ruin-lower (plan-of head row.now) month) (ruin-upper (plan-of head row.now) month)) text.new result.end }
-    ensures summed { (result.lower ≡ lines.lower + ruin-lower (plan-of head row.now) month) × (result.upper ≡ lines.upper + ruin-upper (plan-of head row.now) month) }
-    ensures cleared { workspace.new ≡ workspace-left head Survive workspace.old }
+    requires month_value { month_outside head month ≡ false }
+    requires line_room_in_bounds { (lines.end + line_room ≤ length text.old) × (lines.lower < 2 ^ 63) × (lines.upper < 2 ^ 63) }
+    ensures written { Appended text.old lines.end (ruin_line month (ruin_lower (plan_of head row.now) month) (ruin_upper (plan_of head row.now) month)) text.new result.end }
+    ensures summed { (result.lower ≡ lines.lower + ruin_lower (plan_of head row.now) month) × (result.upper ≡ lines.upper + ruin_upper (plan_of head row.now) month) }
+    ensures cleared { workspace.new ≡ workspace_left head Survive workspace.old }
 {
     let bounds = ruin_of(head, month, row, workspace);
     let lower = bounds.lower as u64;
@@ -59,9 +59,9 @@ pub fn put_ruins(
     workspace: &mut [u32],
 ) -> usize
     requires answerable { Answerable head row.now workspace.old }
-    requires line_room_in_bounds { at + (head.months + 1) * line-room ≤ length text.old }
-    ensures written { Appended text.old at (ruin-lines (plan-of head row.now)) text.new result }
-    ensures cleared { Cleared (ruins-need head) workspace.old workspace.new }
+    requires line_room_in_bounds { at + (head.months + 1) * line_room ≤ length text.old }
+    ensures written { Appended text.old at (ruin_lines (plan_of head row.now)) text.new result }
+    ensures cleared { Cleared (ruins_need head) workspace.old workspace.new }
 {
     let months = head.months;
     let mut lines = RuinLines {

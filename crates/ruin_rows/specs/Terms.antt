@@ -5,5 +5,5 @@ use Rattle.model.specs.Sums.{total}
 
 -- weights that add up to at most S together with over, and the month's chance
 pub record RuinTerms (severity : List ℕ) (tail chance : ℕ) : Type 0 where
-  pub weights-fit : total severity + tail ≤ S
-  pub chance-fits : chance ≤ S
+  pub weights_fit : total severity + tail ≤ S
+  pub chance_fits : chance ≤ S

@@ -3,7 +3,7 @@ ghost use Rattle.std.specs.Prelude.{◌≡◌, ◌+◌, ◌*◌, ◌-◌, ◌^�
 ghost use Rattle.model.specs.Scale.{S};
 ghost use Rattle.model.specs.declared.Rounding.TheVariants.{Down, Up};
 ghost use Rattle.model.specs.Sums.{total};
-ghost use Rattle.model.specs.MonthRule.{ruin-weight, ruin-row};
+ghost use Rattle.model.specs.MonthRule.{ruin_weight, ruin_row};
 ghost use Rattle.claims.specs.Values.{Parts};
 ghost use Rattle.month_rows.specs.Rows.{Replaced};
 ghost use Rattle.ruin_rows.specs.Terms.{RuinTerms};
@@ -16,7 +16,7 @@ use rounding::divide;
 // The weight of the claims that ruin at the level at which they come: of all sizes from that level on, and over.
 pub fn ruin_weight(severity: &[u32], tail: u32, level: usize) -> u64
     requires { total severity.now + tail ≤ S }
-    ensures { result ≡ ruin-weight severity.now tail level }
+    ensures { result ≡ ruin_weight severity.now tail level }
 {
     let mut weight = tail as u64;
     let mut x = difference(level, 1);
@@ -39,7 +39,7 @@ fn ruin_row(
 )
     requires top_in_bounds { (top < length row.old) × Parts row.old × (top + income < 2 ^ 64) }
     requires ruin_terms { RuinTerms severity.now tail chance }
-    ensures rewritten { Replaced 0 (top + 1) (λ i. ruin-row round income severity.now tail chance (top - i)) row.old row.new }
+    ensures rewritten { Replaced 0 (top + 1) (λ i. ruin_row round income severity.now tail chance (top - i)) row.old row.new }
     ensures parts { Parts row.new }
 {
     let mut i = 0;
@@ -62,8 +62,8 @@ pub fn ruin_halves(
 )
     requires halves_len { (length halves.old ≡ 2 * half) × (top < half) × (top + income < 2 ^ 64) }
     requires ruin_terms { RuinTerms severity.now tail chance }
-    ensures lower { Replaced 0 (top + 1) (λ i. ruin-row Down income severity.now tail chance (top - i)) (replicate half 0) (take half halves.new) }
-    ensures upper { Replaced 0 (top + 1) (λ i. ruin-row Up income severity.now tail chance (top - i)) (replicate half 0) (drop half halves.new) }
+    ensures lower { Replaced 0 (top + 1) (λ i. ruin_row Down income severity.now tail chance (top - i)) (replicate half 0) (take half halves.new) }
+    ensures upper { Replaced 0 (top + 1) (λ i. ruin_row Up income severity.now tail chance (top - i)) (replicate half 0) (drop half halves.new) }
     ensures parts { Parts halves.new }
 {
     fill(halves, 0);

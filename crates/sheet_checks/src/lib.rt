@@ -4,8 +4,8 @@ ghost use Rattle.std.specs.Float.Ieee.{lt, ne};
 ghost use Rattle.std.specs.Float.Ieee.Scale.{finite};
 ghost use Rattle.model.specs.Refusal.{first, HeadAccepted};
 ghost use Rattle.doubles.specs.Doubles.{nought, one, within};
-ghost use Rattle.sheet_values.specs.Sheet.{sheet-length, sheet-of, sheet-head};
-ghost use Rattle.sheet_checks.specs.Refusal.{kind-checks, rule-checks, weight-checks, sheet-checks};
+ghost use Rattle.sheet_values.specs.Sheet.{sheet_length, sheet_of, sheet_head};
+ghost use Rattle.sheet_checks.specs.Refusal.{kind_checks, rule_checks, weight_checks, sheet_checks};
 
 use doubles::is_finite;
 use model::SCALE;
@@ -17,7 +17,7 @@ use sheet_values::{RuleSheet, bytes};
 
 // 5 length, 12 kind.
 fn kind_refusal(bytes: &[u8]) -> u32
-    ensures { result ≡ first (kind-checks bytes.now) }
+    ensures { result ≡ first (kind_checks bytes.now) }
 {
     if bytes.len() != bytes::LENGTH {
         return 5;
@@ -66,9 +66,9 @@ fn level_steps(kind: usize, step: f64) -> bool
 
 // 13 rule.
 fn rule_refusal(bytes: &[u8]) -> u32
-    requires bytes_len { length bytes.now ≡ sheet-length }
-    requires head_accepted { HeadAccepted (sheet-head (sheet-of bytes.now)) }
-    ensures { result ≡ first (rule-checks bytes.now) }
+    requires bytes_len { length bytes.now ≡ sheet_length }
+    requires head_accepted { HeadAccepted (sheet_head (sheet_of bytes.now)) }
+    ensures { result ≡ first (rule_checks bytes.now) }
 {
     let sheet = bytes::sheet_of(bytes);
     let kind = big_endian(bytes, bytes::KIND, 1);
@@ -93,8 +93,8 @@ fn rule_refusal(bytes: &[u8]) -> u32
 
 // 8 weights, which no sheet should reach, and 9 tail.
 fn weight_refusal(sheet: RuleSheet) -> u32
-    requires { HeadAccepted (sheet-head sheet) × (within sheet.alpha ≡ true) }
-    ensures { result ≡ first (weight-checks sheet) }
+    requires { HeadAccepted (sheet_head sheet) × (within sheet.alpha ≡ true) }
+    ensures { result ≡ first (weight_checks sheet) }
 {
     let sizes = sheet.sizes;
     let alpha = sheet.alpha;
@@ -112,7 +112,7 @@ fn weight_refusal(sheet: RuleSheet) -> u32
 
 // The first check that fits a sheet's bytes, 0 if there is none. That of lent memory comes after these.
 pub fn refusal(bytes: &[u8]) -> u32
-    ensures { result ≡ first (sheet-checks bytes.now) }
+    ensures { result ≡ first (sheet_checks bytes.now) }
 {
     let unread = kind_refusal(bytes);
     if unread != 0 {

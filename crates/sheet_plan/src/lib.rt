@@ -1,7 +1,7 @@
 // The actuary's rule sheets: a sheet's bytes into the plan that its rules make, as a head and a row or as plan bytes.
 ghost use Rattle.std.specs.Prelude.{◌≡◌, ◌≤◌, length, take};
-ghost use Rattle.codec.specs.Answers.{no-head};
-ghost use Rattle.sheet_plan.specs.Answers.{sheet-answer, sheet-row-after, plan-answer, plan-bytes-after};
+ghost use Rattle.codec.specs.Answers.{no_head};
+ghost use Rattle.sheet_plan.specs.Answers.{sheet_answer, sheet_row_after, plan_answer, plan_bytes_after};
 
 use codec::{ReadAnswer, WriteAnswer};
 use model::Head;
@@ -11,8 +11,8 @@ use sheet_values::{bytes, rules};
 
 // Reads a sheet: the plan's row fills the first numbers of the lent row, the rest of which is untouched, as all of it is if the sheet is refused.
 pub fn read(bytes: &[u8], row: &mut [u32]) -> ReadAnswer
-    ensures answer { result ≡ sheet-answer bytes.now (length row.old) }
-    ensures memory { row.new ≡ sheet-row-after bytes.now row.old }
+    ensures answer { result ≡ sheet_answer bytes.now (length row.old) }
+    ensures memory { row.new ≡ sheet_row_after bytes.now row.old }
 {
     let refused = sheet_checks::refusal(bytes);
     if refused != 0 {
@@ -30,7 +30,7 @@ pub fn read(bytes: &[u8], row: &mut [u32]) -> ReadAnswer
 
 // A refusal's answer.
 fn no_plan(refusal: u32) -> ReadAnswer
-    ensures { (result.refusal ≡ refusal) × (result.head ≡ no-head) }
+    ensures { (result.refusal ≡ refusal) × (result.head ≡ no_head) }
 {
     let none = Head {
         months: 0,
@@ -47,8 +47,8 @@ fn no_plan(refusal: u32) -> ReadAnswer
 // Writes the bytes of a sheet's plan: they fill the first of the lent bytes, the rest of which is untouched, as all of them are if the sheet is refused. `within` is
 // for a caller that takes the plan's bytes.
 pub fn write_plan(bytes: &[u8], plan: &mut [u8]) -> WriteAnswer
-    ensures answer { result ≡ plan-answer bytes.now (length plan.old) }
-    ensures memory { plan.new ≡ plan-bytes-after bytes.now plan.old }
+    ensures answer { result ≡ plan_answer bytes.now (length plan.old) }
+    ensures memory { plan.new ≡ plan_bytes_after bytes.now plan.old }
     ensures within { (result.length ≤ length plan.new) × (result.length ≡ length (take result.length plan.new)) }
 {
     let mut row = blank_row();

@@ -11,15 +11,15 @@ use lib.Pow.{pow_pos}
 use lib.Ieee.{Float}
 use lib.Ieee.Digits.{Equals}
 use lib.Ieee.Positive.{num, den, den_pos}
-use Rattle.model.specs.Limits.{max-sizes}
+use Rattle.model.specs.Limits.{max_sizes}
 use Rattle.model.specs.Scale.{S}
 use Rattle.model.specs.Sums.{sum, total}
 use Rattle.doubles.specs.Doubles.{within, parts}
-use Rattle.doubles.proofs.RangeLaws.{within-small}
-use Rattle.doubles.proofs.PartLaws.{parts-as}
-use Rattle.doubles.proofs.RoundLaws.{rest-above, product-above}
+use Rattle.doubles.proofs.RangeLaws.{within_small}
+use Rattle.doubles.proofs.PartLaws.{parts_as}
+use Rattle.doubles.proofs.RoundLaws.{rest_above, product_above}
 use Rattle.sheet_values.specs.Rules.{weight, weights}
-use Rattle.sheet_values.proofs.RuleLaws.{weight-first, weight-next, weight-within, weight-sum, weight-sum-next, weight-sum-whole}
+use Rattle.sheet_values.proofs.RuleLaws.{weight_first, weight_next, weight_within, weight_sum, weight_sum_next, weight_sum_whole}
 
 -- ---- whole numbers: n / d is alpha, T the sizes passed and W the next, D the unit and E what a rounding may add
 
@@ -73,61 +73,61 @@ module _ (alpha : Float) (h : within alpha ≡ true) where
   record Bounded (m : ℕ) : Type 0 where
     passed : ℕ
     next : ℕ
-    next-is : Equals (weight alpha (m + 1)) next (2 ^ 1074)
-    parts-most : weight-sum alpha m * 2 ^ 1074 ≤ S * passed
+    next_is : Equals (weight alpha (m + 1)) next (2 ^ 1074)
+    parts_most : weight_sum alpha m * 2 ^ 1074 ≤ S * passed
     grows : (passed + next) * d ≤ (d - n) * 2 ^ 1074 + n * passed + (m + 1) * (2 ^ 1022 * d)
-    passed-most : passed ≤ 2 ^ 1074 + m * (max-sizes * 2 ^ 1022)
+    passed_most : passed ≤ 2 ^ 1074 + m * (max_sizes * 2 ^ 1022)
 
   -- what the parts of a weight come to
-  parts-least : (w : Float) (v : ℕ) → Equals w v (2 ^ 1074) → parts w * 2 ^ 1074 ≤ S * v
-  parts-least w v is =
-      le_trans (le_of_eq (ap (λ x. x * 2 ^ 1074) (parts-as w v (2 ^ 1074) (pow_pos 1074) is)))
+  parts_least : (w : Float) (v : ℕ) → Equals w v (2 ^ 1074) → parts w * 2 ^ 1074 ≤ S * v
+  parts_least w v is =
+      le_trans (le_of_eq (ap (λ x. x * 2 ^ 1074) (parts_as w v (2 ^ 1074) (pow_pos 1074) is)))
       (le_trans (div-mul-le_self (v * S) (2 ^ 1074)) (le_of_eq (mul_comm v S)))
 
-  bounded-first : Bounded 0
+  bounded_first : Bounded 0
   unfolding sum
-  bounded-first =
-      let r = rest-above alpha h in
+  bounded_first =
+      let r = rest_above alpha h in
       record {
         passed = 0;
         next = r.0;
-        next-is = subst (λ w. Equals w r.0 (2 ^ 1074)) (weight-first alpha) r.1;
-        parts-most = zero-le;
+        next_is = subst (λ w. Equals w r.0 (2 ^ 1074)) (weight_first alpha) r.1;
+        parts_most = zero-le;
         grows = start d n r.0 (2 ^ 1074) (2 ^ 1022) r.2;
-        passed-most = zero-le;
+        passed_most = zero-le;
       }
 
-  bounded-next : (m : ℕ) → m < max-sizes → Bounded m → Bounded (m + 1)
-  bounded-next m few b =
+  bounded_next : (m : ℕ) → m < max_sizes → Bounded m → Bounded (m + 1)
+  bounded_next m few b =
       let w = weight alpha (m + 1) in
-      let r = product-above w alpha (weight-within alpha h (m + 1)) h b.next b.next-is in
+      let r = product_above w alpha (weight_within alpha h (m + 1)) h b.next b.next_is in
       record {
         passed = b.passed + b.next;
         next = r.0;
-        next-is = subst (λ x. Equals x r.0 (2 ^ 1074)) (weight-next alpha m) r.1;
-        parts-most =
-            le_trans (le_of_eq (ap (λ x. x * 2 ^ 1074) (sym (weight-sum-next alpha m))))
-            (join (weight-sum alpha m) (parts w) (2 ^ 1074) S b.passed b.next b.parts-most (parts-least w b.next b.next-is));
+        next_is = subst (λ x. Equals x r.0 (2 ^ 1074)) (weight_next alpha m) r.1;
+        parts_most =
+            le_trans (le_of_eq (ap (λ x. x * 2 ^ 1074) (sym (weight_sum_next alpha m))))
+            (join (weight_sum alpha m) (parts w) (2 ^ 1074) S b.passed b.next b.parts_most (parts_least w b.next b.next_is));
         grows = grow d n b.passed b.next r.0 (2 ^ 1074) (2 ^ 1022) (m + 1) b.grows r.2;
-        passed-most =
+        passed_most =
             le_trans
-            (most d n b.passed b.next (2 ^ 1074) (2 ^ 1022) (m * (max-sizes * 2 ^ 1022)) (m + 1) max-sizes
-            (den_pos alpha) (within-small alpha h) (omega arith) b.grows b.passed-most)
-            (le_of_eq (ap (λ x. 2 ^ 1074 + x) (again m (max-sizes * 2 ^ 1022))));
+            (most d n b.passed b.next (2 ^ 1074) (2 ^ 1022) (m * (max_sizes * 2 ^ 1022)) (m + 1) max_sizes
+            (den_pos alpha) (within_small alpha h) (omega arith) b.grows b.passed_most)
+            (le_of_eq (ap (λ x. 2 ^ 1074 + x) (again m (max_sizes * 2 ^ 1022))));
       }
 
-  bounded : (m : ℕ) → m ≤ max-sizes → Bounded m
-  bounded zero few = bounded-first
-  bounded (suc m) few = subst Bounded (add-one m) (bounded-next m (omega arith) (bounded m (omega arith)))
+  bounded : (m : ℕ) → m ≤ max_sizes → Bounded m
+  bounded zero few = bounded_first
+  bounded (suc m) few = subst Bounded (add-one m) (bounded_next m (omega arith) (bounded m (omega arith)))
 
   -- the roundings of all sizes come to less than one part
-  pub weights-never-pass : (m : ℕ) → m ≤ max-sizes → total (weights alpha m) ≤ S
+  pub weights_never_pass : (m : ℕ) → m ≤ max_sizes → total (weights alpha m) ≤ S
   unfolding S
-  weights-never-pass m few =
+  weights_never_pass m few =
       let b = bounded m few in
-      finish (total (weights alpha m)) (2 ^ 1074) S b.passed (m * (max-sizes * 2 ^ 1022))
-      (subst (λ t. t * 2 ^ 1074 ≤ S * b.passed) (weight-sum-whole alpha m) b.parts-most)
-      b.passed-most
+      finish (total (weights alpha m)) (2 ^ 1074) S b.passed (m * (max_sizes * 2 ^ 1022))
+      (subst (λ t. t * 2 ^ 1074 ≤ S * b.passed) (weight_sum_whole alpha m) b.parts_most)
+      b.passed_most
       (lt_of_le_of_lt
-      (mul-le-mul_left S (mul-le-mul_right (max-sizes * 2 ^ 1022) few))
-      (lit< {m = S * (max-sizes * (max-sizes * 2 ^ 1022))} {n = 2 ^ 1074} tt))
+      (mul-le-mul_left S (mul-le-mul_right (max_sizes * 2 ^ 1022) few))
+      (lit< {m = S * (max_sizes * (max_sizes * 2 ^ 1022))} {n = 2 ^ 1074} tt))

@@ -3,7 +3,7 @@ use Rattle.std.specs.Prelude.{ℕ, zero, suc, ◌-◌, List, [], ◌∷◌, ◌+
 use Rattle.std.specs.Float.{binary64}
 use Rattle.std.specs.Float.Ieee.{of_int, add, sub, mul}
 use Rattle.model.specs.Scale.{S}
-use Rattle.model.specs.Sums.{one-to, total}
+use Rattle.model.specs.Sums.{one_to, total}
 use Rattle.doubles.specs.Doubles.{one, parts}
 use Rattle.sheet_values.specs.declared.ChanceRule.{ChanceRule}
 use Rattle.sheet_values.specs.declared.ChanceRule.TheVariants.{Level, Ramp}
@@ -26,19 +26,19 @@ weight alpha x = repeated (x - 1) (λ w. mul binary64 w alpha) (sub binary64 one
 
 -- the chances of months 1 to n, and the weights of sizes 1 to m, each turned into parts of S
 unfoldable pub chances : ChanceRule → ℕ → List ℕ
-chances rule n = map (λ i. parts (chance rule i)) (one-to n)
+chances rule n = map (λ i. parts (chance rule i)) (one_to n)
 
 unfoldable pub weights : Float → ℕ → List ℕ
-weights alpha m = map (λ x. parts (weight alpha x)) (one-to m)
+weights alpha m = map (λ x. parts (weight alpha x)) (one_to m)
 
 -- "over is what is missing to S": the tail, as in a plan
 unfoldable pub tail : Float → ℕ → ℕ
 tail alpha m = S - total (weights alpha m)
 
 -- the weights of m sizes, and the tail
-unfoldable pub size-part : Float → ℕ → List ℕ
-size-part alpha m = weights alpha m ++ tail alpha m ∷ []
+unfoldable pub size_part : Float → ℕ → List ℕ
+size_part alpha m = weights alpha m ++ tail alpha m ∷ []
 
 -- the plan's row: "chances, weights, over"
-unfoldable pub sheet-row : RuleSheet → List ℕ
-sheet-row s = chances s.rule s.months ++ size-part s.alpha s.sizes
+unfoldable pub sheet_row : RuleSheet → List ℕ
+sheet_row s = chances s.rule s.months ++ size_part s.alpha s.sizes

@@ -9,8 +9,8 @@ use Rattle.sheet_values.specs.declared.ChanceRule.{ChanceRule}
 use Rattle.sheet_values.specs.declared.ChanceRule.TheVariants.{Level, Ramp}
 use Rattle.sheet_values.specs.declared.RuleSheet.{RuleSheet}
 
-abbrev pub sheet-length : ℕ
-sheet-length = 29
+abbrev pub sheet_length : ℕ
+sheet_length = 29
 
 -- the number of so many bytes from a place on
 unfoldable pub number_at : ℕ → ℕ → List ℕ → ℕ
@@ -19,8 +19,8 @@ number_at at count bytes = big_endian (take count (drop at bytes))
 unfoldable pub double : ℕ → List ℕ → Float
 double at bytes = of_bits binary64 (number_at at 8 bytes)
 
-abbrev pub kind-of : List ℕ → ℕ
-kind-of bytes = number_at 0 1 bytes
+abbrev pub kind_of : List ℕ → ℕ
+kind_of bytes = number_at 0 1 bytes
 
 abbrev pub first_of : List ℕ → Float
 first_of bytes = double 5 bytes
@@ -28,24 +28,24 @@ first_of bytes = double 5 bytes
 abbrev pub step_of : List ℕ → Float
 step_of bytes = double 13 bytes
 
-abbrev pub alpha-of : List ℕ → Float
-alpha-of bytes = double 21 bytes
+abbrev pub alpha_of : List ℕ → Float
+alpha_of bytes = double 21 bytes
 
 -- "A claim-chance rule is either level, with its chance, or a ramp, with its first chance and its monthly step. Kind 1 is level, 2 is ramp."
-unfoldable pub sheet-rule : List ℕ → ChanceRule
-sheet-rule bytes = cond (eqb (kind-of bytes) 1) (Level (first_of bytes)) (Ramp (first_of bytes) (step_of bytes))
+unfoldable pub sheet_rule : List ℕ → ChanceRule
+sheet_rule bytes = cond (eqb (kind_of bytes) 1) (Level (first_of bytes)) (Ramp (first_of bytes) (step_of bytes))
 
 -- "A rule sheet is one record with the rule, the opening and the alpha." It has the sheet's months and sizes too.
-unfoldable pub sheet-of : List ℕ → RuleSheet
-sheet-of bytes =
+unfoldable pub sheet_of : List ℕ → RuleSheet
+sheet_of bytes =
     record {
-      rule = sheet-rule bytes;
+      rule = sheet_rule bytes;
       months = number_at 1 1 bytes;
       opening = number_at 2 1 bytes;
       sizes = number_at 3 2 bytes;
-      alpha = alpha-of bytes;
+      alpha = alpha_of bytes;
     }
 
 -- the head of the plan that a sheet makes: "Sheets make plans with c = 1."
-unfoldable pub sheet-head : RuleSheet → Head
-sheet-head s = record { months = s.months; opening = s.opening; sizes = s.sizes; income = 1 }
+unfoldable pub sheet_head : RuleSheet → Head
+sheet_head s = record { months = s.months; opening = s.opening; sizes = s.sizes; income = 1 }

@@ -1,6 +1,6 @@
 // What a sheet's bytes hold, most significant byte first.
 ghost use Rattle.std.specs.Prelude.{◌≡◌, cond, ◌+◌, ◌≤◌, eqb, length};
-ghost use Rattle.sheet_values.specs.Sheet.{sheet-length, sheet-of, sheet-head};
+ghost use Rattle.sheet_values.specs.Sheet.{sheet_length, sheet_of, sheet_head};
 ghost use Rattle.sheet_values.specs.Sheet.{double as Sheet·double};
 
 use crate::{ChanceRule, RuleSheet};
@@ -44,8 +44,8 @@ fn rule_of(kind: usize, first: f64, step: f64) -> ChanceRule
 }
 
 pub fn sheet_of(bytes: &[u8]) -> RuleSheet
-    requires { length bytes.now ≡ sheet-length }
-    ensures { result ≡ sheet-of bytes.now }
+    requires { length bytes.now ≡ sheet_length }
+    ensures { result ≡ sheet_of bytes.now }
 {
     let kind = big_endian(bytes, KIND, 1);
     let months = big_endian(bytes, MONTHS, 1);
@@ -66,7 +66,7 @@ pub fn sheet_of(bytes: &[u8]) -> RuleSheet
 
 // The head of the plan that a sheet makes, which has an income of 1.
 pub fn head_of(sheet: RuleSheet) -> Head
-    ensures { result ≡ sheet-head sheet }
+    ensures { result ≡ sheet_head sheet }
 {
     Head {
         months: sheet.months,

@@ -1,11 +1,11 @@
 // The chances and weights that a sheet's rules make, and the plan's row of them.
 ghost use Rattle.std.specs.Prelude.{◌≡◌, true, false, not, ◌-◌, ◌≤◌, ◌<◌, length};
-ghost use Rattle.model.specs.Limits.{max-months, max-sizes};
-ghost use Rattle.model.specs.Sums.{one-to, total, any};
-ghost use Rattle.model.specs.Plan.{row-length};
+ghost use Rattle.model.specs.Limits.{max_months, max_sizes};
+ghost use Rattle.model.specs.Sums.{one_to, total, any};
+ghost use Rattle.model.specs.Plan.{row_length};
 ghost use Rattle.doubles.specs.Doubles.{within};
-ghost use Rattle.sheet_values.specs.Sheet.{sheet-head};
-ghost use Rattle.sheet_values.specs.Rules.{chances, weights, size-part, sheet-row};
+ghost use Rattle.sheet_values.specs.Sheet.{sheet_head};
+ghost use Rattle.sheet_values.specs.Rules.{chances, weights, size_part, sheet_row};
 ghost use Rattle.sheet_values.specs.Terms.{MakesPlan};
 ghost use Rattle.sheet_values.specs.Rules.{chance as Rules·chance};
 
@@ -16,7 +16,7 @@ use numbers::wide;
 
 // The chance of a month, counted from 1: the product is rounded, and then the sum.
 fn chance(rule: ChanceRule, month: usize) -> f64
-    requires { (0 < month) × (month ≤ max-months) }
+    requires { (0 < month) × (month ≤ max_months) }
     ensures { result ≡ Rules·chance rule month }
 {
     match rule {
@@ -27,8 +27,8 @@ fn chance(rule: ChanceRule, month: usize) -> f64
 
 // Whether the chance of some month is not in 0 to 1.
 pub fn some_outside(rule: ChanceRule, months: usize) -> bool
-    requires { months ≤ max-months }
-    ensures { result ≡ any (λ i. not (within (Rules·chance rule i))) (one-to months) }
+    requires { months ≤ max_months }
+    ensures { result ≡ any (λ i. not (within (Rules·chance rule i))) (one_to months) }
 {
     let mut passed = 0;
     while passed < months {
@@ -42,7 +42,7 @@ pub fn some_outside(rule: ChanceRule, months: usize) -> bool
 
 // The sum of the weights of all sizes.
 pub fn weights_total(alpha: f64, sizes: usize) -> u64
-    requires { (within alpha ≡ true) × (sizes ≤ max-sizes) }
+    requires { (within alpha ≡ true) × (sizes ≤ max_sizes) }
     ensures { result ≡ total (weights alpha sizes) }
 {
     let mut sum: u64 = 0;
@@ -57,8 +57,8 @@ pub fn weights_total(alpha: f64, sizes: usize) -> u64
 }
 
 fn put_chances(rule: ChanceRule, row: &mut [u32])
-    requires row_len_bound { length row.old ≤ max-months }
-    requires row_value { any (λ i. not (within (Rules·chance rule i))) (one-to (length row.old)) ≡ false }
+    requires row_len_bound { length row.old ≤ max_months }
+    requires row_value { any (λ i. not (within (Rules·chance rule i))) (one_to (length row.old)) ≡ false }
     ensures { row.new ≡ chances rule (length row.old) }
 {
     let mut i = 0;
@@ -83,8 +83,8 @@ fn put_weights(alpha: f64, row: &mut [u32])
 
 // The weights of all sizes but for the row's last number, which takes what they leave of the scale.
 fn put_sizes(alpha: f64, row: &mut [u32])
-    requires { (0 < length row.old) × (length row.old - 1 ≤ max-sizes) × (within alpha ≡ true) }
-    ensures { row.new ≡ size-part alpha (length row.old - 1) }
+    requires { (0 < length row.old) × (length row.old - 1 ≤ max_sizes) × (within alpha ≡ true) }
+    ensures { row.new ≡ size_part alpha (length row.old - 1) }
 {
     let sizes = row.len() - 1;
     put_weights(alpha, &mut row[..sizes]);
@@ -94,8 +94,8 @@ fn put_sizes(alpha: f64, row: &mut [u32])
 // The plan's row: chances, weights, tail.
 pub fn put_row(sheet: RuleSheet, row: &mut [u32])
     requires makes_plan { MakesPlan sheet }
-    requires row_len { length row.old ≡ row-length (sheet-head sheet) }
-    ensures { row.new ≡ sheet-row sheet }
+    requires row_len { length row.old ≡ row_length (sheet_head sheet) }
+    ensures { row.new ≡ sheet_row sheet }
 {
     let rule = sheet.rule;
     let months = sheet.months;

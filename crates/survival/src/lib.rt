@@ -3,10 +3,10 @@ mod rows;
 
 ghost use Rattle.std.specs.Prelude.{◌≡◌, ℕ, ◌+◌, ◌*◌, ◌≤◌, length, get_or};
 ghost use Rattle.model.specs.declared.Question.TheVariants.{Survive};
-ghost use Rattle.model.specs.Plan.{plan-of, opened};
+ghost use Rattle.model.specs.Plan.{plan_of, opened};
 ghost use Rattle.model.specs.Bounds.{EnclosesQuestion};
-ghost use Rattle.engine.specs.Answers.{bounds-answer, answer};
-ghost use Rattle.survival.specs.Openings.{opening-ask, openings-refusal, bounds-after, openings-workspace-after};
+ghost use Rattle.engine.specs.Answers.{bounds_answer, answer};
+ghost use Rattle.survival.specs.Openings.{opening_ask, openings_refusal, bounds_after, openings_workspace_after};
 
 use crate::rows::put_openings;
 use model::Head;
@@ -16,14 +16,14 @@ use plan::lengths::row_levels;
 // 2 × (opening + 1) numbers of `bounds`. Answers the refusal's number, 0 if there is none. The workspace needs what survive needs; whatever it holds, that part
 // is 0 after an answer, and nothing else changes.
 pub fn all_openings(head: Head, row: &[u32], workspace: &mut [u32], bounds: &mut [u32]) -> u32
-    ensures answered { result ≡ openings-refusal head row.now (length workspace.old) (length bounds.old) }
-    ensures filled { bounds.new ≡ bounds-after head row.now (length workspace.old) bounds.old }
-    ensures cleared { workspace.new ≡ openings-workspace-after head row.now (length bounds.old) workspace.old }
+    ensures answered { result ≡ openings_refusal head row.now (length workspace.old) (length bounds.old) }
+    ensures filled { bounds.new ≡ bounds_after head row.now (length workspace.old) bounds.old }
+    ensures cleared { workspace.new ≡ openings_workspace_after head row.now (length bounds.old) workspace.old }
     ensures asked { result ≡ 0 → (v : ℕ) → v ≤ head.opening →
-        answer (opening-ask head v) row.now (length workspace.old)
-        ≡ bounds-answer 0 (get_or bounds.new (2 * v) 0) (get_or bounds.new (2 * v + 1) 0) }
+        answer (opening_ask head v) row.now (length workspace.old)
+        ≡ bounds_answer 0 (get_or bounds.new (2 * v) 0) (get_or bounds.new (2 * v + 1) 0) }
     ensures encloses { result ≡ 0 → (v : ℕ) → v ≤ head.opening →
-        EnclosesQuestion (plan-of (opened head v) row.now) Survive (get_or bounds.new (2 * v) 0) (get_or bounds.new (2 * v + 1) 0) }
+        EnclosesQuestion (plan_of (opened head v) row.now) Survive (get_or bounds.new (2 * v) 0) (get_or bounds.new (2 * v + 1) 0) }
 {
     let refusal = check(head, row, workspace.len(), bounds.len());
     if refusal != 0 {
@@ -47,7 +47,7 @@ pub fn all_openings(head: Head, row: &[u32], workspace: &mut [u32], bounds: &mut
 
 // The checks of the plan, then 11 where the workspace or the lent row is too short.
 fn check(head: Head, row: &[u32], room: usize, places: usize) -> u32
-    ensures { result ≡ openings-refusal head row.now room places }
+    ensures { result ≡ openings_refusal head row.now room places }
 {
     let of_plan = plan::plan_refusal(head, row);
     if of_plan != 0 {

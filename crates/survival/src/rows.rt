@@ -1,11 +1,11 @@
 // Both rows of survival, worked in the workspace, and their values at every opening.
 ghost use Rattle.std.specs.Prelude.{◌≡◌, ◌+◌, ◌*◌, ◌<◌, length, take, drop, replicate};
 ghost use Rattle.model.specs.declared.Rounding.TheVariants.{Down, Up};
-ghost use Rattle.model.specs.Levels.{row-levels};
-ghost use Rattle.claims.specs.Values.{from-top};
+ghost use Rattle.model.specs.Levels.{row_levels};
+ghost use Rattle.claims.specs.Values.{from_top};
 ghost use Rattle.month_rule.specs.Months.{PlanTerms};
 ghost use Rattle.survival.specs.Openings.{interleaved};
-ghost use Rattle.questions.specs.Survival.{survival-row};
+ghost use Rattle.questions.specs.Survival.{survival_row};
 
 use model::Question;
 use month_rows::rows::{fill, value_at};
@@ -16,7 +16,7 @@ use questions::needs::shape_of;
 fn put_pairs(pairs: &mut [u32], halves: &[u32], half: usize, top: usize)
     requires pairs_len { length pairs.old ≡ 2 * (top + 1) }
     requires top_lt_half { (top < half) × (length halves.now ≡ 2 * half) }
-    ensures { pairs.new ≡ interleaved (top + 1) (from-top top (take half halves.now)) (from-top top (drop half halves.now)) }
+    ensures { pairs.new ≡ interleaved (top + 1) (from_top top (take half halves.now)) (from_top top (drop half halves.now)) }
 {
     let mut level = 0;
     while level <= top {
@@ -39,10 +39,10 @@ pub fn put_openings(
     severity: &[u32],
 )
     requires bounds_len { length bounds.old ≡ 2 * (opening + 1) }
-    requires income_nonzero { (0 < income) × (length workspace.old ≡ 2 * row-levels income opening (length chances.now)) }
+    requires income_nonzero { (0 < income) × (length workspace.old ≡ 2 * row_levels income opening (length chances.now)) }
     requires plan_terms { PlanTerms severity.now chances.now }
     ensures put { bounds.new
-        ≡ interleaved (opening + 1) (survival-row Down income severity.now chances.now) (survival-row Up income severity.now chances.now) }
+        ≡ interleaved (opening + 1) (survival_row Down income severity.now chances.now) (survival_row Up income severity.now chances.now) }
     ensures cleared { workspace.new ≡ replicate (length workspace.old) 0 }
 {
     let half = opening + income * chances.len() + 1;

@@ -1,11 +1,11 @@
 -- The rows of survival held against a target, for the functions below the call.
 use Rattle.std.specs.Prelude.{ℕ, ◌+◌, ◌-◌, ◌<◌, ◌≤◌, cond, List, leb, ltb, length, drop}
 use Rattle.model.specs.declared.Rounding.TheVariants.{Down}
-use Rattle.model.specs.Levels.{largest-level}
+use Rattle.model.specs.Levels.{largest_level}
 use Rattle.model.specs.MonthRule.{Row}
 use Rattle.claims.specs.Listing.{Listing}
 use Rattle.month_rule.specs.Months.{PlanTerms}
-use Rattle.questions.specs.Survival.{survival-row}
+use Rattle.questions.specs.Survival.{survival_row}
 use Rattle.target_rows.specs.declared.rows.Found.{Found}
 use Rattle.target_rows.specs.Least.{least}
 
@@ -22,8 +22,8 @@ pub record Reaches (target top : ℕ) (row : Row) : Type 0 where
 -- Document 02: "The work is given up in the month when no level reaches the target any more." It is 0 where the work is not given up. The row before a month t
 -- is that of the months from t on.
 pub record GivenUp (income : ℕ) (severity : List ℕ) (opening : ℕ) (chances : List ℕ) (target month : ℕ) : Type 0 where
-  pub reached : (t : ℕ) → month ≤ t → t ≤ length chances → Reaches target (largest-level income opening t) (survival-row Down income severity (drop t chances))
-  pub below : 0 < month → Below target (largest-level income opening (month - 1)) (survival-row Down income severity (drop (month - 1) chances))
+  pub reached : (t : ℕ) → month ≤ t → t ≤ length chances → Reaches target (largest_level income opening t) (survival_row Down income severity (drop t chances))
+  pub below : 0 < month → Below target (largest_level income opening (month - 1)) (survival_row Down income severity (drop (month - 1) chances))
 
 -- What a walk back through the months takes beside its row, of so many numbers: the plan's terms, its filled sizes as they are listed, an income, and an opening
 -- from which no month leads past the row.
@@ -31,11 +31,11 @@ pub record Walk (size income opening : ℕ) (chances severity sizes : List ℕ) 
   pub terms : PlanTerms severity chances
   pub listing : Listing severity sizes dense
   pub earns : 0 < income
-  pub inside : largest-level income opening (length chances) < size
+  pub inside : largest_level income opening (length chances) < size
 
 -- The least of the openings 0 to the largest whose lower bound reaches the target, with that bound; one above the largest, and 0, where none does.
-unfoldable pub least-found : ℕ → List ℕ → ℕ → List ℕ → ℕ → Found
-least-found income severity opening chances target = record { opening = v; lower = cond (ltb opening v) 0 (survival-row Down income severity chances v) }
+unfoldable pub least_found : ℕ → List ℕ → ℕ → List ℕ → ℕ → Found
+least_found income severity opening chances target = record { opening = v; lower = cond (ltb opening v) 0 (survival_row Down income severity chances v) }
   where
     v : ℕ
-    v = least (opening + 1) (λ s. leb target (survival-row Down income severity chances s))
+    v = least (opening + 1) (λ s. leb target (survival_row Down income severity chances s))

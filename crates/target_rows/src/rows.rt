@@ -3,13 +3,13 @@ ghost use Rattle.std.specs.Prelude.{◌≡◌, ◌+◌, ◌-◌, ◌<◌, ◌≤
 ghost use Rattle.model.specs.declared.Rounding.TheVariants.{Down, Up};
 ghost use Rattle.model.specs.declared.Question.TheVariants.{Survive};
 ghost use Rattle.model.specs.Scale.{S};
-ghost use Rattle.model.specs.Levels.{largest-level};
-ghost use Rattle.claims.specs.Values.{from-top};
+ghost use Rattle.model.specs.Levels.{largest_level};
+ghost use Rattle.claims.specs.Values.{from_top};
 ghost use Rattle.month_rule.specs.Months.{TakenBack};
 ghost use Rattle.questions.specs.Needs.{shape_of};
-ghost use Rattle.questions.specs.Survival.{survival-row};
+ghost use Rattle.questions.specs.Survival.{survival_row};
 ghost use Rattle.target_rows.specs.Least.{least};
-ghost use Rattle.target_rows.specs.Rows.{Reaches, GivenUp, Walk, least-found};
+ghost use Rattle.target_rows.specs.Rows.{Reaches, GivenUp, Walk, least_found};
 
 use model::{Question, Rounding};
 use month_rows::rows::{fill, value_at};
@@ -31,7 +31,7 @@ fn lower_back(
     requires walk { Walk (length row.old) income opening chances.now severity.now sizes.now dense }
     requires target_nonzero { (0 < target) × (target ≤ S) }
     ensures given { GivenUp income severity.now opening chances.now target result }
-    ensures back { TakenBack Down severity.now (shape_of Survive (length row.old) income) (largest-level income opening (result - 1)) (drop (result - 1) chances.now)
+    ensures back { TakenBack Down severity.now (shape_of Survive (length row.old) income) (largest_level income opening (result - 1)) (drop (result - 1) chances.now)
         (replicate (length row.old) S) row.new }
 {
     let shape = shape_of(Question::Survive, row.len(), income);
@@ -65,8 +65,8 @@ fn lower_back(
 // The least level whose value reaches the target, where some level's does.
 fn least_level(row: &[u32], top: usize, target: u32) -> usize
     requires top_in_bounds { top < length row.now }
-    requires reaches { Reaches target top (from-top top row.now) }
-    ensures found { result ≡ least (top + 1) (λ s. leb target (from-top top row.now s)) }
+    requires reaches { Reaches target top (from_top top row.now) }
+    ensures found { result ≡ least (top + 1) (λ s. leb target (from_top top row.now s)) }
     ensures inside { result ≤ top }
 {
     let mut level = 0;
@@ -88,9 +88,9 @@ pub struct Found {
 
 fn found_in(row: &[u32], opening: usize, target: u32) -> Found
     requires opening_in_bounds { opening < length row.now }
-    requires reaches { Reaches target opening (from-top opening row.now) }
-    ensures found { result.opening ≡ least (opening + 1) (λ s. leb target (from-top opening row.now s)) }
-    ensures lower { result.lower ≡ from-top opening row.now result.opening }
+    requires reaches { Reaches target opening (from_top opening row.now) }
+    ensures found { result.opening ≡ least (opening + 1) (λ s. leb target (from_top opening row.now s)) }
+    ensures lower { result.lower ≡ from_top opening row.now result.opening }
     ensures inside { result.opening ≤ opening }
 {
     let level = least_level(row, opening, target);
@@ -113,7 +113,7 @@ pub fn least_lower(
 ) -> Found
     requires walk { Walk (length row.old) income opening chances.now severity.now sizes.now dense }
     requires target_nonzero { (0 < target) × (target ≤ S) }
-    ensures found { result ≡ least-found income severity.now opening chances.now target }
+    ensures found { result ≡ least_found income severity.now opening chances.now target }
     ensures cleared { row.new ≡ replicate (length row.old) 0 }
 {
     let month = lower_back(
@@ -142,7 +142,7 @@ pub fn upper_at(
     dense: usize,
 ) -> u32
     requires { Walk (length row.old) income opening chances.now severity.now sizes.now dense }
-    ensures upper { result ≡ survival-row Up income severity.now chances.now opening }
+    ensures upper { result ≡ survival_row Up income severity.now chances.now opening }
     ensures cleared { row.new ≡ replicate (length row.old) 0 }
 {
     let shape = shape_of(Question::Survive, row.len(), income);

@@ -15,14 +15,14 @@ pub record Storing {A : Type 0} (f : ℕ → A) (n : ℕ) (memory : List A) (i :
   pub stored : take i memory ≡ first_of i f
 
 module _ {A : Type 0} (f : ℕ → A) (n : ℕ) (memory : List A) where
-  pub storing-none : length memory ≡ n → Storing f n memory 0
+  pub storing_none : length memory ≡ n → Storing f n memory 0
   unfolding first_of
-  storing-none long = record { long = long; within = omega arith; stored = refl }
+  storing_none long = record { long = long; within = omega arith; stored = refl }
 
   module _ (i : ℕ) (before : Storing f n memory i) where
-    pub storing-more : (a : A) → i < n → a ≡ f i → Storing f n (set memory i a) (i + 1)
+    pub storing_more : (a : A) → i < n → a ≡ f i → Storing f n (set memory i a) (i + 1)
     unfolding first_of
-    storing-more a inside is =
+    storing_more a inside is =
         record {
           long = length-set memory i a ∙ before.long;
           within = omega arith;
@@ -31,7 +31,7 @@ module _ {A : Type 0} (f : ℕ → A) (n : ℕ) (memory : List A) where
               (take-suc-set memory i a (omega (arith, before.long)) ∙ ap₂ (λ (l : List A) (x : A). l ++ (x ∷ [])) before.stored is);
         }
 
-    pub storing-done : n ≤ i → memory ≡ first_of n f
-    storing-done all =
+    pub storing_done : n ≤ i → memory ≡ first_of n f
+    storing_done all =
         let end : i ≡ n = omega (arith, before.within) in
         sym (take_all i memory (omega (arith, before.long))) ∙ before.stored ∙ ap (λ k. first_of k f) end

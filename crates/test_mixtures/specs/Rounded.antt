@@ -3,5 +3,5 @@ use Rattle.std.specs.Prelude.{ℕ, ◌+◌, ◌*◌, ◌/◌}
 use Rattle.model.specs.Scale.{S}
 
 -- parts of S in ten-millionths, to the nearest
-unfoldable pub ten-millionths : ℕ → ℕ
-ten-millionths x = (x * 10000000 + S / 2) / S
+unfoldable pub ten_millionths : ℕ → ℕ
+ten_millionths x = (x * 10000000 + S / 2) / S

@@ -1,6 +1,6 @@
 // Two bounds as decimal numbers with 7 places, which the published model's are held to.
 ghost use Rattle.std.specs.Prelude.{◌≡◌};
-ghost use Rattle.test_mixtures.specs.Rounded.{ten-millionths};
+ghost use Rattle.test_mixtures.specs.Rounded.{ten_millionths};
 
 use engine::Answer;
 use libc::STDOUT_FILENO;
@@ -20,7 +20,7 @@ pub fn line(answer: Answer) {
 
 // Parts of the scale in ten-millionths, to the nearest.
 fn rounded(x: u32) -> u64
-    ensures { result ≡ ten-millionths x }
+    ensures { result ≡ ten_millionths x }
 {
     (x as u64 * ONE + WIDE_SCALE / 2) / WIDE_SCALE
 }

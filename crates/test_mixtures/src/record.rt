@@ -1,7 +1,7 @@
 // What a record begins with: 47 words of 8 bytes, most significant byte first.
 ghost use Rattle.std.specs.Prelude.{◌≡◌, ◌+◌, ◌*◌, ◌≤◌, ◌<◌, length};
-ghost use Rattle.model.specs.Limits.{max-plans};
-ghost use Rattle.test_mixtures.specs.Records.{word_at, number_at, numbers-in, head_at, heads-in, weights-in, question-of, record_of};
+ghost use Rattle.model.specs.Limits.{max_plans};
+ghost use Rattle.test_mixtures.specs.Records.{word_at, number_at, numbers_in, head_at, heads_in, weights_in, question_of, record_of};
 
 use mixture_plans::Mixture;
 use model::{Head, Question, limits};
@@ -44,7 +44,7 @@ pub fn decode(words: &[u8; BYTES]) -> Record
 }
 
 fn heads(words: &[u8; BYTES]) -> [Head; limits::PLANS]
-    ensures { result ≡ heads-in words.now }
+    ensures { result ≡ heads_in words.now }
 {
     let mut heads = [head(words, 0); limits::PLANS];
     let mut i = 0;
@@ -56,7 +56,7 @@ fn heads(words: &[u8; BYTES]) -> [Head; limits::PLANS]
 }
 
 fn head(words: &[u8; BYTES], i: usize) -> Head
-    requires { i < max-plans }
+    requires { i < max_plans }
     ensures { result ≡ head_at words.now i }
 {
     Head {
@@ -68,7 +68,7 @@ fn head(words: &[u8; BYTES], i: usize) -> Head
 }
 
 fn weights(words: &[u8; BYTES]) -> [u32; limits::PLANS]
-    ensures { result ≡ weights-in words.now }
+    ensures { result ≡ weights_in words.now }
 {
     let mut weights = [0; limits::PLANS];
     let mut i = 0;
@@ -80,7 +80,7 @@ fn weights(words: &[u8; BYTES]) -> [u32; limits::PLANS]
 }
 
 fn question(kind: usize, number: usize) -> Question
-    ensures { result ≡ question-of kind number }
+    ensures { result ≡ question_of kind number }
 {
     match kind {
         1 => Question::Both(number),
@@ -108,7 +108,7 @@ fn number(bytes: &[u8], i: usize) -> u32
 // The row that bytes hold, four bytes a number.
 pub fn unpack(bytes: &[u8], row: &mut [u32])
     requires { 4 * length row.old ≤ length bytes.now }
-    ensures { row.new ≡ numbers-in (length row.old) bytes.now }
+    ensures { row.new ≡ numbers_in (length row.old) bytes.now }
 {
     let mut i = 0;
     while i < row.len() {

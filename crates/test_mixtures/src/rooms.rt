@@ -1,6 +1,6 @@
 // The room that the program lends, for the code; specs/Rooms.antt has it for the contracts, and the proofs hold the two equal.
 ghost use Rattle.std.specs.Prelude.{◌≡◌, length, replicate};
-ghost use Rattle.test_mixtures.specs.Rooms.{row-capacity, workspace-capacity, byte-capacity};
+ghost use Rattle.test_mixtures.specs.Rooms.{row_capacity, workspace_capacity, byte_capacity};
 
 use model::limits;
 
@@ -16,22 +16,22 @@ pub const BYTES: usize = 16384;
 
 // The second `ensures` of each gives the length, which lending a part of the array needs.
 pub fn row() -> [u32; ROW]
-    ensures filled { result ≡ replicate row-capacity 0 }
-    ensures sized { row-capacity ≡ length result }
+    ensures filled { result ≡ replicate row_capacity 0 }
+    ensures sized { row_capacity ≡ length result }
 {
     [0; ROW]
 }
 
 pub fn workspace(fill: u32) -> [u32; WORKSPACE]
-    ensures filled { result ≡ replicate workspace-capacity fill }
-    ensures sized { workspace-capacity ≡ length result }
+    ensures filled { result ≡ replicate workspace_capacity fill }
+    ensures sized { workspace_capacity ≡ length result }
 {
     [fill; WORKSPACE]
 }
 
 pub fn bytes() -> [u8; BYTES]
-    ensures filled { result ≡ replicate byte-capacity 0 }
-    ensures sized { byte-capacity ≡ length result }
+    ensures filled { result ≡ replicate byte_capacity 0 }
+    ensures sized { byte_capacity ≡ length result }
 {
     [0; BYTES]
 }

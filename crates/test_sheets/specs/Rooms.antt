@@ -2,8 +2,8 @@
 use Rattle.std.specs.Prelude.{ℕ, ◌+◌}
 use Rattle.model.specs.Limits.{row_room}
 
-abbrev pub row-capacity : ℕ
-row-capacity = row_room + 6
+abbrev pub row_capacity : ℕ
+row_capacity = row_room + 6
 
-abbrev pub byte-capacity : ℕ
-byte-capacity = 1800
+abbrev pub byte_capacity : ℕ
+byte_capacity = 1800

@@ -1,6 +1,6 @@
 // One call on a sheet, and its line: the refusal's number, what was answered, and each number of the lent memory after it.
 ghost use Rattle.std.specs.Prelude.{◌≡◌, length, replicate};
-ghost use Rattle.test_sheets.specs.Rooms.{row-capacity, byte-capacity};
+ghost use Rattle.test_sheets.specs.Rooms.{row_capacity, byte_capacity};
 
 use libc::STDOUT_FILENO;
 use model::limits;
@@ -13,15 +13,15 @@ const BYTES: usize = 1800;
 
 // The second `ensures` gives the length, which lending a part of the array needs.
 fn row() -> [u32; ROW]
-    ensures filled { result ≡ replicate row-capacity 4294967295 }
-    ensures sized { row-capacity ≡ length result }
+    ensures filled { result ≡ replicate row_capacity 4294967295 }
+    ensures sized { row_capacity ≡ length result }
 {
     [u32::MAX; ROW]
 }
 
 fn bytes() -> [u8; BYTES]
-    ensures filled { result ≡ replicate byte-capacity 255 }
-    ensures sized { byte-capacity ≡ length result }
+    ensures filled { result ≡ replicate byte_capacity 255 }
+    ensures sized { byte_capacity ≡ length result }
 {
     [u8::MAX; BYTES]
 }

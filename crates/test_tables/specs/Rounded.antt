@@ -3,5 +3,5 @@ use Rattle.std.specs.Prelude.{ℕ, ◌+◌, ◌*◌, ◌/◌}
 use Rattle.model.specs.Scale.{S}
 
 -- parts of S in ten-thousandths, to the nearest
-unfoldable pub ten-thousandths : ℕ → ℕ
-ten-thousandths x = (x * 10000 + S / 2) / S
+unfoldable pub ten_thousandths : ℕ → ℕ
+ten_thousandths x = (x * 10000 + S / 2) / S

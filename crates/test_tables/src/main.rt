@@ -1,7 +1,7 @@
 // Survival of the plans on standard input, in ten-thousandths of both bounds: the figures of source document 000's tables 2 and 3, which
 // docs/src/tables.py has. A plan comes as two bytes with its length, most significant first, and its bytes.
 ghost use Rattle.std.specs.Prelude.{◌≡◌};
-ghost use Rattle.test_tables.specs.Rounded.{ten-thousandths};
+ghost use Rattle.test_tables.specs.Rounded.{ten_thousandths};
 
 use libc::{STDIN_FILENO, STDOUT_FILENO};
 use model::{Ask, Head, Question, limits};
@@ -57,7 +57,7 @@ fn print_survival(head: Head, row: &[u32]) {
 
 // Parts of the scale in ten-thousandths, to the nearest.
 fn rounded(x: u32) -> u64
-    ensures { result ≡ ten-thousandths x }
+    ensures { result ≡ ten_thousandths x }
 {
     (x as u64 * 10000 + model::SCALE as u64 / 2) / model::SCALE as u64
 }

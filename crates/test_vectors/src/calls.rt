@@ -1,6 +1,6 @@
 // One call a record, and its line: the refusal's number, what was answered, and the lent memory after it.
 ghost use Rattle.std.specs.Prelude.{◌≡◌, length, replicate};
-ghost use Rattle.test_vectors.specs.Rooms.{workspace-capacity};
+ghost use Rattle.test_vectors.specs.Rooms.{workspace_capacity};
 
 use crate::record::Record;
 use crate::{format, openings, rooms, sums, text};
@@ -36,8 +36,8 @@ fn lend(record: Record, row: &[u32]) {
 
 // The second `ensures` gives the length, which lending a part of the array needs.
 fn workspace(fill: u32) -> [u32; rooms::WORKSPACE]
-    ensures filled { result ≡ replicate workspace-capacity fill }
-    ensures sized { workspace-capacity ≡ length result }
+    ensures filled { result ≡ replicate workspace_capacity fill }
+    ensures sized { workspace_capacity ≡ length result }
 {
     [fill; rooms::WORKSPACE]
 }

@@ -9,7 +9,7 @@ mod sums;
 mod text;
 
 ghost use Rattle.std.specs.Prelude.{◌≡◌, ◌≤◌, length};
-ghost use Rattle.test_vectors.specs.Rooms.{used-after};
+ghost use Rattle.test_vectors.specs.Rooms.{used_after};
 
 use record::Record;
 
@@ -36,7 +36,7 @@ fn play(row: &mut [u32]) {
 // One record, over the row that the last `row` record set; answers the length of the row for the next.
 fn step(next: Record, row: &mut [u32], used: usize) -> usize
     requires { used ≤ length row.old }
-    ensures used { result ≡ used-after next (length row.old) used }
+    ensures used { result ≡ used_after next (length row.old) used }
     ensures within { result ≤ length row.new }
 {
     let kind = next.kind;

@@ -1,6 +1,6 @@
 // All openings in one call, with its line: the refusal's number, the lent row of bounds and the workspace.
 ghost use Rattle.std.specs.Prelude.{◌≡◌, length, replicate};
-ghost use Rattle.test_vectors.specs.Rooms.{bounds-capacity};
+ghost use Rattle.test_vectors.specs.Rooms.{bounds_capacity};
 
 use crate::{rooms, text};
 use model::Head;
@@ -16,8 +16,8 @@ pub fn lend(head: Head, places: usize, fill: u32, row: &[u32], workspace: &mut [
 
 // The second `ensures` gives the length, which lending a part of the array needs.
 fn bounds(fill: u32) -> [u32; rooms::BOUNDS]
-    ensures filled { result ≡ replicate bounds-capacity fill }
-    ensures sized { bounds-capacity ≡ length result }
+    ensures filled { result ≡ replicate bounds_capacity fill }
+    ensures sized { bounds_capacity ≡ length result }
 {
     [fill; rooms::BOUNDS]
 }

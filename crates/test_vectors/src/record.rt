@@ -1,6 +1,6 @@
 // The records of the input: nine words, then a row or a plan's bytes where the kind asks for them.
 ghost use Rattle.std.specs.Prelude.{◌≡◌, ◌+◌, ◌*◌, ◌≤◌, length, replicate};
-ghost use Rattle.test_vectors.specs.Rooms.{row-capacity, byte-capacity, row-used};
+ghost use Rattle.test_vectors.specs.Rooms.{row_capacity, byte_capacity, row_used};
 ghost use Rattle.test_vectors.specs.Records.{word_at, number_at, record_of, ended, row_in};
 
 use crate::rooms;
@@ -74,22 +74,22 @@ fn number(bytes: &[u8], at: usize) -> u32
 
 // Room for a row and for a plan's bytes. The second `ensures` gives the length, which lending a part of the array needs.
 pub fn row(fill: u32) -> [u32; rooms::ROW]
-    ensures filled { result ≡ replicate row-capacity fill }
-    ensures sized { row-capacity ≡ length result }
+    ensures filled { result ≡ replicate row_capacity fill }
+    ensures sized { row_capacity ≡ length result }
 {
     [fill; rooms::ROW]
 }
 
 pub fn bytes(fill: u8) -> [u8; rooms::BYTES]
-    ensures filled { result ≡ replicate byte-capacity fill }
-    ensures sized { byte-capacity ≡ length result }
+    ensures filled { result ≡ replicate byte_capacity fill }
+    ensures sized { byte_capacity ≡ length result }
 {
     [fill; rooms::BYTES]
 }
 
 // Reads a row of `count` numbers, and answers its length, or 0 where there is no room for it.
 pub fn read_row(count: usize, row: &mut [u32]) -> usize
-    ensures used { result ≡ row-used count (length row.old) }
+    ensures used { result ≡ row_used count (length row.old) }
     ensures within { result ≤ length row.new }
 {
     if count > rooms::ROW {

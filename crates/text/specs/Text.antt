@@ -9,13 +9,13 @@ ascii empty = []
 ascii (c then s) = code c ∷ ascii s
 
 -- the last digit of n
-abbrev pub last-digit : ℕ → ℕ
-last-digit n = code "0" + n % 10
+abbrev pub last_digit : ℕ → ℕ
+last_digit n = code "0" + n % 10
 
 -- the digits of n, the most significant first and no 0 in front, of at most so many places
 unfoldable pub digits : ℕ → ℕ → List ℕ
 digits zero n = []
-digits (suc places) n = cond (ltb n 10) [] (digits places (n / 10)) ++ last-digit n ∷ []
+digits (suc places) n = cond (ltb n 10) [] (digits places (n / 10)) ++ last_digit n ∷ []
 
 -- 20 places hold every number of 64 bits
 unfoldable pub decimal : ℕ → List ℕ
@@ -30,12 +30,12 @@ joined (suc n) text = joined n text ++ text n
 abbrev pub spaced : ℕ → List ℕ
 spaced n = ascii " " ++ decimal n
 
-abbrev pub spaced-each : List ℕ → ℕ → List ℕ
-spaced-each numbers i = spaced (get_or numbers i 0)
+abbrev pub spaced_each : List ℕ → ℕ → List ℕ
+spaced_each numbers i = spaced (get_or numbers i 0)
 
 -- a word and its numbers
 unfoldable pub entry : List ℕ → List ℕ → List ℕ
-entry word numbers = word ++ joined (length numbers) (spaced-each numbers)
+entry word numbers = word ++ joined (length numbers) (spaced_each numbers)
 
 -- "Every later line is a word, its number where it has one, lower, upper"
 unfoldable pub line : List ℕ → List ℕ → List ℕ

@@ -4,7 +4,7 @@ ghost use Rattle.model.specs.Scale.{S};
 ghost use Rattle.model.specs.Sums.{total};
 ghost use Rattle.text.specs.Text.{Appended};
 ghost use Rattle.plain_engine.specs.Steps.{Terms};
-ghost use Rattle.tree_values.specs.Lines.{claim-text, claim-texts, branch-texts, node-text};
+ghost use Rattle.tree_values.specs.Lines.{claim_text, claim_texts, branch_texts, node_text};
 
 use model::Question;
 use numbers::{lesser, wide};
@@ -28,8 +28,8 @@ fn put_claim(
 ) -> usize
     requires terms { Terms severity.now later.now level }
     requires place_lt_level { (place < level) × (place < length severity.now) × (month + 1 < 2 ^ 64) }
-    requires place_in_bounds { at + length (claim-text question severity.now month later.now left level (suc place)) ≤ length text.old }
-    ensures { Appended text.old at (claim-text question severity.now month later.now left level (suc place)) text.new result }
+    requires place_in_bounds { at + length (claim_text question severity.now month later.now left level (suc place)) ≤ length text.old }
+    ensures { Appended text.old at (claim_text question severity.now month later.now left level (suc place)) text.new result }
 {
     let weight = wide(severity[place]);
     if weight == 0 {
@@ -67,8 +67,8 @@ fn put_claims(
 ) -> usize
     requires terms { Terms severity.now later.now level }
     requires month_bound { month + 1 < 2 ^ 64 }
-    requires level_in_bounds { at + length (claim-texts question severity.now month later.now left level) ≤ length text.old }
-    ensures { Appended text.old at (claim-texts question severity.now month later.now left level) text.new result }
+    requires level_in_bounds { at + length (claim_texts question severity.now month later.now left level) ≤ length text.old }
+    ensures { Appended text.old at (claim_texts question severity.now month later.now left level) text.new result }
 {
     let most = lesser(level, severity.len());
     let mut end = at;
@@ -94,8 +94,8 @@ fn put_branches(
 ) -> usize
     requires terms { Terms severity.now chances.now level }
     requires chances_nonzero { (0 < length chances.now) × (month + 1 < 2 ^ 64) × (total severity.now + tail ≤ S) }
-    requires level_in_bounds { at + length (branch-texts question severity.now tail month chances.now left level) ≤ length text.old }
-    ensures { Appended text.old at (branch-texts question severity.now tail month chances.now left level) text.new result }
+    requires level_in_bounds { at + length (branch_texts question severity.now tail month chances.now left level) ≤ length text.old }
+    ensures { Appended text.old at (branch_texts question severity.now tail month chances.now left level) text.new result }
 {
     let later = &chances[1..];
     let chance = [wide(chances[0])];
@@ -130,8 +130,8 @@ pub fn put_node(
 ) -> usize
     requires terms { Terms severity.now chances.now level }
     requires month_bound { (month + 1 < 2 ^ 64) × (total severity.now + tail ≤ S) }
-    requires level_in_bounds { at + length (node-text question severity.now tail month chances.now left level) ≤ length text.old }
-    ensures { Appended text.old at (node-text question severity.now tail month chances.now left level) text.new result }
+    requires level_in_bounds { at + length (node_text question severity.now tail month chances.now left level) ≤ length text.old }
+    ensures { Appended text.old at (node_text question severity.now tail month chances.now left level) text.new result }
 {
     let end = put_entry(text, at, b"month", &[month as u64]);
     let end = put_value(

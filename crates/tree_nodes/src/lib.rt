@@ -1,7 +1,7 @@
 // The nodes of a small plan's tree: which levels are followed, and which nodes are reached from the opening.
 ghost use Rattle.std.specs.Prelude.{◌≡◌, ◌&&◌, ◌||◌, ◌+◌, ◌*◌, ◌-◌, ◌^◌, ◌<◌, ltb, length};
 ghost use Rattle.model.specs.Scale.{S};
-ghost use Rattle.tree_nodes.specs.Nodes.{node-allowed};
+ghost use Rattle.tree_nodes.specs.Nodes.{node_allowed};
 ghost use Rattle.tree_nodes.specs.Nodes.{leads as Nodes·leads};
 
 use model::{Question, SCALE};
@@ -18,7 +18,7 @@ pub struct Node {
 
 // Whether a question follows a node at this level after so many months: the opening is looked at by high alone.
 pub fn node_allowed(question: Question, month: usize, level: usize) -> bool
-    ensures { result ≡ node-allowed question month level }
+    ensures { result ≡ node_allowed question month level }
 {
     if month == 0 {
         return opening_allowed(question, level);

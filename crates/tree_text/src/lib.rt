@@ -2,9 +2,9 @@
 ghost use Rattle.std.specs.Prelude.{◌≡◌, ◌++◌, ◌+◌, ◌≤◌, length, take, drop};
 ghost use Rattle.model.specs.Refusal.{Accepted};
 ghost use Rattle.text.specs.Text.{Appended};
-ghost use Rattle.report_lines.specs.Lines.{refused-line};
-ghost use Rattle.tree_text.specs.Tree.{small-plan, node-if, level-text, month-text, first_part, accepted-part, tree-part};
-ghost use Rattle.tree_text.specs.Rooms.{text-room};
+ghost use Rattle.report_lines.specs.Lines.{refused_line};
+ghost use Rattle.tree_text.specs.Tree.{small_plan, node_if, level_text, month_text, first_part, accepted_part, tree_part};
+ghost use Rattle.tree_text.specs.Rooms.{text_room};
 ghost use Rattle.tree_text.specs.Terms.{SmallTerms};
 
 use codec::read_plan;
@@ -17,7 +17,7 @@ use report_lines::lines::put_refused;
 use tree_lines::put_node;
 use tree_nodes::{Node, leads};
 
-// Room for each part of every tree: the proof of `tree` fails where it is less than `text-room`.
+// Room for each part of every tree: the proof of `tree` fails where it is less than `text_room`.
 pub const TEXT: usize = 65536;
 
 // How many parts a tree has: one for each month that a small plan can have, and one before the first.
@@ -27,16 +27,16 @@ pub const PARTS: usize = limits::SMALL_MONTHS + 1;
 // the first part, the one of no months, and all others are empty, as those of months that the plan does not have. `within` is for a caller that takes the
 // first r bytes.
 pub fn tree(bytes: &[u8], question: Question, month: usize, text: &mut [u8; TEXT]) -> usize
-    ensures answered { result ≡ length (tree-part question bytes.now month) }
-    ensures written { text.new ≡ tree-part question bytes.now month ++ drop result text.old }
+    ensures answered { result ≡ length (tree_part question bytes.now month) }
+    ensures written { text.new ≡ tree_part question bytes.now month ++ drop result text.old }
     ensures within { (result ≤ length text.new) × (result ≡ length (take result text.new)) }
 {
     put_tree(text, bytes, question, month)
 }
 
 fn put_tree(text: &mut [u8], bytes: &[u8], question: Question, month: usize) -> usize
-    requires { text-room ≤ length text.old }
-    ensures { Appended text.old 0 (tree-part question bytes.now month) text.new result }
+    requires { text_room ≤ length text.old }
+    ensures { Appended text.old 0 (tree_part question bytes.now month) text.new result }
 {
     let plan = read_plan(bytes);
     let wrong = plan.refusal;
@@ -51,8 +51,8 @@ fn put_tree(text: &mut [u8], bytes: &[u8], question: Question, month: usize) -> 
 
 // A refusal, where it is the part of no months.
 fn put_first(text: &mut [u8], month: usize, number: u32) -> usize
-    requires { text-room ≤ length text.old }
-    ensures { Appended text.old 0 (first_part month (refused-line number)) text.new result }
+    requires { text_room ≤ length text.old }
+    ensures { Appended text.old 0 (first_part month (refused_line number)) text.new result }
 {
     if month == 0 {
         return put_refused(text, 0, number);
@@ -63,8 +63,8 @@ fn put_first(text: &mut [u8], month: usize, number: u32) -> usize
 // The part of an accepted plan.
 fn put_plan(text: &mut [u8], head: Head, row: &[u32], question: Question, month: usize) -> usize
     requires accepted { Accepted head row.now }
-    requires text_room_in_bounds { text-room ≤ length text.old }
-    ensures { Appended text.old 0 (accepted-part question head row.now month) text.new result }
+    requires text_room_in_bounds { text_room ≤ length text.old }
+    ensures { Appended text.old 0 (accepted_part question head row.now month) text.new result }
 {
     let wrong = refusal(Ask { head, question }, row);
     if wrong != 0 {
@@ -97,8 +97,8 @@ fn put_month(
     tail: u32,
 ) -> usize
     requires small_terms { SmallTerms question opening chances.now severity.now tail month }
-    requires month_in_bounds { length (month-text question (small-plan opening chances.now severity.now tail) month) ≤ length text.old }
-    ensures { Appended text.old 0 (month-text question (small-plan opening chances.now severity.now tail) month) text.new result }
+    requires month_in_bounds { length (month_text question (small_plan opening chances.now severity.now tail) month) ≤ length text.old }
+    ensures { Appended text.old 0 (month_text question (small_plan opening chances.now severity.now tail) month) text.new result }
 {
     let top = opening + month;
     let mut end = 0;
@@ -134,8 +134,8 @@ fn put_level(
 ) -> usize
     requires small_terms { SmallTerms question opening chances.now severity.now tail month }
     requires level_bound { level ≤ opening + month }
-    requires level_in_bounds { at + length (level-text question (small-plan opening chances.now severity.now tail) month level) ≤ length text.old }
-    ensures { Appended text.old at (level-text question (small-plan opening chances.now severity.now tail) month level) text.new result }
+    requires level_in_bounds { at + length (level_text question (small_plan opening chances.now severity.now tail) month level) ≤ length text.old }
+    ensures { Appended text.old at (level_text question (small_plan opening chances.now severity.now tail) month level) text.new result }
 {
     let most = claims_to_place(question);
     let last = lesser(month, most);
@@ -174,8 +174,8 @@ fn put_reached(
 ) -> usize
     requires small_terms { SmallTerms question opening chances.now severity.now tail month }
     requires level_bound { level ≤ opening + month }
-    requires left_in_bounds { at + length (node-if question (small-plan opening chances.now severity.now tail) month level left) ≤ length text.old }
-    ensures { Appended text.old at (node-if question (small-plan opening chances.now severity.now tail) month level left) text.new result }
+    requires left_in_bounds { at + length (node_if question (small_plan opening chances.now severity.now tail) month level left) ≤ length text.old }
+    ensures { Appended text.old at (node_if question (small_plan opening chances.now severity.now tail) month level left) text.new result }
 {
     let target = Node { left, level };
     let first = claims_to_place(question);

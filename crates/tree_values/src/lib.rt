@@ -2,7 +2,7 @@
 ghost use Rattle.std.specs.Prelude.{◌≡◌, ◌+◌, ◌≤◌, length};
 ghost use Rattle.text.specs.Text.{Appended};
 ghost use Rattle.plain_engine.specs.Steps.{Terms};
-ghost use Rattle.tree_values.specs.Lines.{node-bounds, left-text, place-text, value-text};
+ghost use Rattle.tree_values.specs.Lines.{node_bounds, left_text, place_text, value_text};
 
 use model::{Bounds, Question, Rounding};
 use plain_engine::steps::taken;
@@ -12,8 +12,8 @@ use tree_nodes::node_allowed;
 
 // The claims left to place, where the question counts them.
 fn put_left(text: &mut [u8], at: usize, question: Question, left: usize) -> usize
-    requires { at + length (left-text question left) ≤ length text.old }
-    ensures { Appended text.old at (left-text question left) text.new result }
+    requires { at + length (left_text question left) ≤ length text.old }
+    ensures { Appended text.old at (left_text question left) text.new result }
 {
     match question {
         Question::Survive => at,
@@ -34,8 +34,8 @@ fn put_place(
     allowed: bool,
     bounds: Bounds,
 ) -> usize
-    requires { at + length (place-text word.now question left level allowed bounds) ≤ length text.old }
-    ensures { Appended text.old at (place-text word.now question left level allowed bounds) text.new result }
+    requires { at + length (place_text word.now question left level allowed bounds) ≤ length text.old }
+    ensures { Appended text.old at (place_text word.now question left level allowed bounds) text.new result }
 {
     let numbers = [bounds.lower as u64, bounds.upper as u64];
     let end = put_entry(text, at, word, &[level as u64]);
@@ -56,7 +56,7 @@ fn bounds_of(
     level: usize,
 ) -> Bounds
     requires { Terms severity.now chances.now level }
-    ensures { result ≡ node-bounds question severity.now month chances.now left level }
+    ensures { result ≡ node_bounds question severity.now month chances.now left level }
 {
     let allowed = node_allowed(question, month, level);
     let lower = value(question, chances, severity, left, level, Rounding::Down);
@@ -80,8 +80,8 @@ pub fn put_value(
     level: usize,
 ) -> usize
     requires terms { Terms severity.now chances.now level }
-    requires level_in_bounds { at + length (value-text word.now question severity.now month chances.now left level) ≤ length text.old }
-    ensures { Appended text.old at (value-text word.now question severity.now month chances.now left level) text.new result }
+    requires level_in_bounds { at + length (value_text word.now question severity.now month chances.now left level) ≤ length text.old }
+    ensures { Appended text.old at (value_text word.now question severity.now month chances.now left level) text.new result }
 {
     let bounds = bounds_of(question, month, chances, severity, left, level);
     put_place(

@@ -4,7 +4,7 @@ use mathlib.Core.Path.{sym, ◌∙◌}
 use native.Mathlib.Omega.{arith}
 use borrow.Author.Rules.{rules}
 use lib.ListN.{length}
-use Rattle.arguments.proofs.Spelling.{Spelling, nothing-spelled, spelling-none, spelling-more, spelling-stopped, spelling-done}
+use Rattle.arguments.proofs.Spelling.{Spelling, nothing_spelled, spelling_none, spelling_more, spelling_stopped, spelling_done}
 use Rattle.arguments.proofs.number_of.Statement.{statement}
 use Rattle.arguments.proofs.number_of.Tie as tie
 
@@ -22,10 +22,10 @@ abbrev tested : tie.After-next-number invariant-loop decreases-loop → tie.Else
 tested c = c.before.before
 
 returns : tie.Need-returns invariant-loop decreases-loop
-returns c = sym (nothing-spelled c.before.before.args.argument.now (omega arith))
+returns c = sym (nothing_spelled c.before.before.args.argument.now (omega arith))
 
 loop-holds : tie.Need-loop-init invariant-loop decreases-loop
-loop-holds c = spelling-none _
+loop-holds c = spelling_none _
 
 shared-slice-read-not-digit : tie.Need-shared-slice-read-not-digit invariant-loop decreases-loop
 shared-slice-read-not-digit c = search rules
@@ -35,7 +35,7 @@ not-digit-requires c κs = search rules
 
 returns-2 : tie.Need-returns-2 invariant-loop decreases-loop
 returns-2 c =
-    sym (spelling-stopped _ _ _ (at-loop c.before).loop.inv (search rules) (sym c.before.not_digit.ensures ∙ c.if2.true))
+    sym (spelling_stopped _ _ _ (at-loop c.before).loop.inv (search rules) (sym c.before.not_digit.ensures ∙ c.if2.true))
 
 shared-slice-read-next-number : tie.Need-shared-slice-read-next-number invariant-loop decreases-loop
 shared-slice-read-next-number c = search rules
@@ -53,10 +53,10 @@ loop-again : tie.Need-loop-preserved invariant-loop decreases-loop
 loop-again c =
     let digit = tested c in
     rw c.next-number.ensures
-    (spelling-more _ _ _ (at-loop digit.before).loop.inv (search rules) (sym digit.before.not_digit.ensures ∙ digit.if2.left))
+    (spelling_more _ _ _ (at-loop digit.before).loop.inv (search rules) (sym digit.before.not_digit.ensures ∙ digit.if2.left))
 
 returns-3 : tie.Need-returns-3 invariant-loop decreases-loop
-returns-3 c = sym (spelling-done _ _ _ c.before.loop.invariant c.before.before.if1.false (search rules))
+returns-3 c = sym (spelling_done _ _ _ c.before.loop.invariant c.before.before.if1.false (search rules))
 
 pub number-of-spec : {M : Type 1} → statement M
 number-of-spec =

@@ -3,7 +3,7 @@ use mathlib.Core.Path.{◌≡◌, sym, ◌∙◌}
 use Rattle.text.specs.Text.{ascii}
 use Rattle.numbers.specs.Same.{same}
 use Rattle.numbers.proofs.Same.{told}
-use Rattle.arguments.proofs.WordLaws.{by_both, by_high, by-low, by-none}
+use Rattle.arguments.proofs.WordLaws.{by_both, by_high, by_low, by_none}
 use borrow.Author.Rules.{rules}
 use Rattle.arguments.proofs.numbered.Statement.{statement}
 use Rattle.arguments.proofs.numbered.Tie as tie
@@ -73,7 +73,7 @@ returns-3 c =
     let at = then3.before in
     let high = second-told at in
     let a = (start (first-told high)).args in
-    c.read3.ensures ∙ sym (by-low a.word.now a.number (sym (is-both (first-told high)) ∙ high.before.before.if1.left) (sym (is-high high) ∙ at.before.before.if2.false) (sym (is-low at) ∙ then3.if3.true))
+    c.read3.ensures ∙ sym (by_low a.word.now a.number (sym (is-both (first-told high)) ∙ high.before.before.if1.left) (sym (is-high high) ∙ at.before.before.if2.false) (sym (is-low at) ∙ then3.if3.true))
 
 no-question-requires : tie.Need-no-question-requires
 no-question-requires c κs = search rules
@@ -84,7 +84,7 @@ returns-4 c =
     let at = else3.before in
     let high = second-told at in
     let a = (start (first-told high)).args in
-    c.no-question.ensures ∙ sym (by-none a.word.now a.number (sym (is-both (first-told high)) ∙ high.before.before.if1.left) (sym (is-high high) ∙ at.before.before.if2.false) (sym (is-low at) ∙ else3.if3.false))
+    c.no-question.ensures ∙ sym (by_none a.word.now a.number (sym (is-both (first-told high)) ∙ high.before.before.if1.left) (sym (is-high high) ∙ at.before.before.if2.false) (sym (is-low at) ∙ else3.if3.false))
 
 pub numbered-spec : {M : Type 1} → statement M
 numbered-spec =

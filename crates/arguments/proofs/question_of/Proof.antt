@@ -7,7 +7,7 @@ use Rattle.arguments.specs.Numbers.{number_of}
 use Rattle.numbers.specs.Same.{same}
 use Rattle.numbers.proofs.Same.{told}
 use Rattle.arguments.specs.Words.{by_word}
-use Rattle.arguments.proofs.WordLaws.{no_word, one_word, other_word, no_number, many-words, two-words}
+use Rattle.arguments.proofs.WordLaws.{no_word, one_word, other_word, no_number, many_words, two_words}
 use borrow.Author.Rules.{rules}
 use Rattle.arguments.proofs.question_of.Statement.{statement}
 use Rattle.arguments.proofs.question_of.Tie as tie
@@ -89,7 +89,7 @@ returns-5 c =
     let else2 = written at in
     let a = (start else2.before).args in
     c.no-question3.ensures
-    ∙ sym (many-words a.count a.word.now a.number.now else2.before.if1.left else2.if2.left (sym (is-readable at) ∙ not-false _ c.before.before.if4.false) c.before.if5.true)
+    ∙ sym (many_words a.count a.word.now a.number.now else2.before.if1.left else2.if2.left (sym (is-readable at) ∙ not-false _ c.before.before.if4.false) c.before.if5.true)
 
 numbered-requires : tie.Need-numbered-requires
 numbered-requires c κs = search rules
@@ -101,7 +101,7 @@ returns-6 c =
     let a = (start else2.before).args in
     c.numbered.ensures
     ∙ ap (λ (n : Number). by_word a.word.now n.value) (read_number at)
-    ∙ sym (two-words a.count a.word.now a.number.now else2.before.if1.left else2.if2.left (sym (is-readable at) ∙ not-false _ c.before.before.if4.false) c.before.if5.false)
+    ∙ sym (two_words a.count a.word.now a.number.now else2.before.if1.left else2.if2.left (sym (is-readable at) ∙ not-false _ c.before.before.if4.false) c.before.if5.false)
 
 pub question-of-spec : {M : Type 1} → statement M
 question-of-spec =

@@ -3,8 +3,8 @@ use mathlib.Core.Path.{◌∙◌}
 use mathlib.Core.List.{List}
 use Prim.Native.Nat.{ℕ}
 use borrow.Author.Rules.{rules}
-use Rattle.codec.proofs.PlanRead.{PlanRead, read_number, plan-read}
-use Rattle.chart.proofs.Laws.{chart-accepted, chart-refused}
+use Rattle.codec.proofs.PlanRead.{PlanRead, read_number, plan_read}
+use Rattle.chart.proofs.Laws.{chart_accepted, chart_refused}
 use Rattle.chart.proofs.put_chart.Statement.{statement}
 use Rattle.chart.proofs.put_chart.Tie as tie
 
@@ -13,7 +13,7 @@ abbrev bytes : tie.After-read-plan → List ℕ
 bytes c = c.before.before.before.args.bytes.now
 
 plan : (c : tie.Else1) → PlanRead (bytes c.before) c.before.read-plan.result
-plan c = plan-read (bytes c.before) c.before.read-plan.ensures c.if1.false
+plan c = plan_read (bytes c.before) c.before.read-plan.ensures c.if1.false
 
 read-plan-requires : tie.Need-read-plan-requires
 read-plan-requires c κs = search rules
@@ -29,7 +29,7 @@ returns c =
     let put = c.before.before in
     let refused = put.before.before in
     let number = read_number (bytes refused.before) refused.before.read-plan.ensures in
-    rw (chart-refused _ (λ z. refused.if1.true (number ∙ z)), ← number) put.Put-refused.ensures
+    rw (chart_refused _ (λ z. refused.if1.true (number ∙ z)), ← number) put.Put-refused.ensures
 
 slice-aggregate-put-plan : tie.Need-slice-aggregate-put-plan
 slice-aggregate-put-plan c = search rules
@@ -48,7 +48,7 @@ returns-2 : tie.Need-returns-2
 returns-2 c =
     let put = c.before.before in
     let read = plan (accepted put.before) in
-    rw (chart-accepted _ read.none, ← read.row, ← read.head) put.put-plan.ensures
+    rw (chart_accepted _ read.none, ← read.row, ← read.head) put.put-plan.ensures
 
 pub put-chart-spec : {M : Type 1} → statement M
 put-chart-spec =

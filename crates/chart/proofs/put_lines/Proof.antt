@@ -2,10 +2,10 @@
 use Prim.Native.Nat.{◌+◌, ◌-◌}
 use native.Mathlib.Omega.{arith}
 use borrow.Author.Rules.{rules}
-use Rattle.text.proofs.TextLaws.{Appending, appending-start, appending-room-each, appending-turn, appending-done}
-use Rattle.report_lines.specs.Lines.{line-room}
+use Rattle.text.proofs.TextLaws.{Appending, appending_start, appending_room_each, appending_turn, appending_done}
+use Rattle.report_lines.specs.Lines.{line_room}
 use Rattle.chart.specs.Chart.{pair_line}
-use Rattle.chart.proofs.Laws.{opening-short}
+use Rattle.chart.proofs.Laws.{opening_short}
 use Rattle.chart.proofs.put_lines.Statement.{statement}
 use Rattle.chart.proofs.put_lines.Tie as tie
 
@@ -26,7 +26,7 @@ abbrev lower : tie.After-wide2 invariant-loop decreases-loop → tie.After-wide 
 lower c = c.before.before
 
 loop-holds : tie.Need-loop-init invariant-loop decreases-loop
-loop-holds c = appending-start (omega arith)
+loop-holds c = appending_start (omega arith)
 
 mul-place : tie.Need-overflow-mul-place invariant-loop decreases-loop
 mul-place c = search rules
@@ -57,7 +57,7 @@ slice-aggregate-put-numbered c = search rules
 
 put-numbered-requires : tie.Need-put-numbered-requires invariant-loop decreases-loop
 put-numbered-requires c κs =
-    omega (arith, appending-room-each (turn (lower c.before.before)).loop.inv line-room (λ v. opening-short v _ _) (search rules) (search rules))
+    omega (arith, appending_room_each (turn (lower c.before.before)).loop.inv line_room (λ v. opening_short v _ _) (search rules) (search rules))
 
 add-v : tie.Need-overflow-add-v invariant-loop decreases-loop
 add-v c = search rules
@@ -70,14 +70,14 @@ loop-again c =
     let line = c.before.before in
     let put = line.put-numbered in
     let upper = line.before.before.before in
-    appending-turn (turn (lower upper)).loop.inv (search rules) put.auto.0
+    appending_turn (turn (lower upper)).loop.inv (search rules) put.auto.0
     (rw (← (lower upper).wide.ensures, ← upper.wide2.ensures) put.ensures)
 
 same_length : tie.Need-same-length invariant-loop decreases-loop
 same_length c = search rules
 
 returns : tie.Need-returns invariant-loop decreases-loop
-returns c = appending-done c.before.loop.invariant (search rules)
+returns c = appending_done c.before.loop.invariant (search rules)
 
 pub put-lines-spec : {M : Type 1} → statement M
 put-lines-spec =

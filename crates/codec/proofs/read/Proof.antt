@@ -6,13 +6,13 @@ use native.Mathlib.Omega.{arith}
 use borrow.Author.Rules.{rules}
 use lib.ListN.{length, drop, length-take}
 use lib.Seq.{length-take-le}
-use Rattle.model.specs.Plan.{row-length}
-use Rattle.model.specs.Format.{number-width, head-bits, bits_of, fields, head_of, row_of}
-use Rattle.model.specs.Refusal.{HeadAccepted, read-refusal}
-use Rattle.model.proofs.Facts.{head-facts}
-use Rattle.codec.specs.Answers.{no-head}
+use Rattle.model.specs.Plan.{row_length}
+use Rattle.model.specs.Format.{number_width, head_bits, bits_of, fields, head_of, row_of}
+use Rattle.model.specs.Refusal.{HeadAccepted, read_refusal}
+use Rattle.model.proofs.Facts.{head_facts}
+use Rattle.codec.specs.Answers.{no_head}
 use Rattle.plan_bits.proofs.RefusalLaws.{Readable, readable, row_inside}
-use Rattle.codec.proofs.Answered.{read_as, head-answered, head-refused}
+use Rattle.codec.proofs.Answered.{read_as, head_answered, head_refused}
 use Rattle.model.proofs.MemoryLaws.{filled, kept}
 use Rattle.codec.proofs.read.Statement.{statement}
 use Rattle.codec.proofs.read.Tie as tie
@@ -34,22 +34,22 @@ abbrev row_at : tie.After-refusal → List ℕ
 row_at c = (start c).args.row.now
 
 -- The lent row is stored to on this path alone: nothing is refused here.
-none : (c : tie.Else1) → read-refusal (bytes-at (checked c)) (length (row_at (checked c))) ≡ 0
+none : (c : tie.Else1) → read_refusal (bytes-at (checked c)) (length (row_at (checked c))) ≡ 0
 none c = sym (checked c).refusal.ensures ∙ c.if1.false
 
-refused : (c : tie.Then1) → read-refusal (bytes-at c.before) (length (row_at c.before)) ≡ 0 → ⊥
+refused : (c : tie.Then1) → read_refusal (bytes-at c.before) (length (row_at c.before)) ≡ 0 → ⊥
 refused c e = c.if1.true (c.before.refusal.ensures ∙ e)
 
 returns : tie.Need-returns
-unfolding no-head
+unfolding no_head
 returns c =
-    (ap (λ n. read_as n no-head) c.before.refusal.ensures ∙ sym (head-refused _ _ (refused c)), sym (kept _ _ _ _ (refused c)))
+    (ap (λ n. read_as n no_head) c.before.refusal.ensures ∙ sym (head_refused _ _ (refused c)), sym (kept _ _ _ _ (refused c)))
 
 known : (c : tie.Else1) → Readable (bytes-at (checked c)) (length (row_at (checked c)))
 known c = readable _ _ (none c)
 
 head-of-requires : tie.Need-head-of-requires
-head-of-requires c κs = (known c).whole-head
+head-of-requires c κs = (known c).whole_head
 
 abbrev passed : tie.After-head-of → tie.Else1
 passed c = c.before
@@ -67,11 +67,11 @@ head_read c = c.before
 abbrev refusal-at : tie.After-row-length → tie.After-refusal
 refusal-at c = checked (passed (head_read c))
 
-count-is : (c : tie.After-row-length) → c.row-length.result ≡ row-length (head_of (bytes-at (refusal-at c)))
-count-is c = c.row-length.ensures ∙ ap row-length (head_read c).head_of.ensures
+count_is : (c : tie.After-row-length) → c.row_length.result ≡ row_length (head_of (bytes-at (refusal-at c)))
+count_is c = c.row_length.ensures ∙ ap row_length (head_read c).head_of.ensures
 
 slice-relend-prefix-decode : tie.Need-slice-relend-prefix-decode
-slice-relend-prefix-decode c = omega (arith, count-is c, (known (passed (head_read c))).row_fits)
+slice-relend-prefix-decode c = omega (arith, count_is c, (known (passed (head_read c))).row_fits)
 
 abbrev measured : tie.After-decode-arg → tie.After-row-length
 measured c = c.before
@@ -88,8 +88,8 @@ unfolding row_of
 decoded c =
     c.decode.ensures
     ∙ ap
-    (λ n. fields number-width n (drop head-bits (bits_of (bytes-at (refusal-at (measured (lent c)))))))
-    (length-take-le _ _ (slice-relend-prefix-decode (measured (lent c))) ∙ count-is (measured (lent c)))
+    (λ n. fields number_width n (drop head_bits (bits_of (bytes-at (refusal-at (measured (lent c)))))))
+    (length-take-le _ _ (slice-relend-prefix-decode (measured (lent c))) ∙ count_is (measured (lent c)))
 
 abbrev stored : tie.After-slice-known2 → tie.After-decode
 stored c = c.before.before
@@ -98,8 +98,8 @@ returns-2 : tie.Need-returns-2
 returns-2 c =
     let at_count = measured (lent (stored c)) in
     let at_head = head_read at_count in (
-      ap₂ read_as (passed at_head).if1.left at_head.head_of.ensures ∙ sym (head-answered _ _ (none (passed at_head))),
-      ap₂ (λ l n. l ++ drop n (row_at (refusal-at at_count))) (decoded (stored c)) (count-is at_count)
+      ap₂ read_as (passed at_head).if1.left at_head.head_of.ensures ∙ sym (head_answered _ _ (none (passed at_head))),
+      ap₂ (λ l n. l ++ drop n (row_at (refusal-at at_count))) (decoded (stored c)) (count_is at_count)
           ∙ sym (filled _ _ _ _ (none (passed at_head))),
     )
 
@@ -108,9 +108,9 @@ decode-requires c κs =
     simp length-take
     (omega (
       arith,
-      count-is (measured c),
-      (measured c).row-length.ensures,
-      head-facts _ (head_ok (head_read (measured c))),
+      count_is (measured c),
+      (measured c).row_length.ensures,
+      head_facts _ (head_ok (head_read (measured c))),
       row_inside _ _ (known (passed (head_read (measured c)))),
     ))
 

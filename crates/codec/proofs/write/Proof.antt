@@ -7,11 +7,11 @@ use borrow.Author.Rules.{rules}
 use lib.ListN.{length, drop}
 use lib.Seq.{length-take-le}
 use Rattle.model.specs.declared.Head.{Head}
-use Rattle.model.specs.Format.{byte-length}
-use Rattle.model.specs.Refusal.{Accepted, write-refusal}
-use Rattle.model.proofs.Facts.{accepted-head}
+use Rattle.model.specs.Format.{byte_length}
+use Rattle.model.specs.Refusal.{Accepted, write_refusal}
+use Rattle.model.proofs.Facts.{accepted_head}
 use Rattle.plan_bits.proofs.RefusalLaws.{written}
-use Rattle.codec.proofs.Answered.{written_as, length-answered, length-refused}
+use Rattle.codec.proofs.Answered.{written_as, length_answered, length_refused}
 use Rattle.model.proofs.MemoryLaws.{filled, kept}
 use Rattle.codec.proofs.write.Statement.{statement}
 use Rattle.codec.proofs.write.Tie as tie
@@ -36,30 +36,30 @@ abbrev checked : tie.Else1 → tie.After-refusal
 checked c = c.before
 
 -- The lent bytes are stored to on this path alone: nothing is refused here.
-none : (c : tie.Else1) → write-refusal (head_at (checked c)) (row_at (checked c)) (length (bytes-at (checked c))) ≡ 0
+none : (c : tie.Else1) → write_refusal (head_at (checked c)) (row_at (checked c)) (length (bytes-at (checked c))) ≡ 0
 none c = sym (checked c).refusal.ensures ∙ c.if1.false
 
-refused : (c : tie.Then1) → write-refusal (head_at c.before) (row_at c.before) (length (bytes-at c.before)) ≡ 0 → ⊥
+refused : (c : tie.Then1) → write_refusal (head_at c.before) (row_at c.before) (length (bytes-at c.before)) ≡ 0 → ⊥
 refused c e = c.if1.true (c.before.refusal.ensures ∙ e)
 
 returns : tie.Need-returns
 returns c =
-    (ap (λ n. written_as n 0) c.before.refusal.ensures ∙ sym (length-refused _ _ (refused c)), sym (kept _ _ _ _ (refused c)))
+    (ap (λ n. written_as n 0) c.before.refusal.ensures ∙ sym (length_refused _ _ (refused c)), sym (kept _ _ _ _ (refused c)))
 
 known :
     (c : tie.Else1)
     → Accepted (head_at (checked c)) (row_at (checked c))
-    × (byte-length (head_at (checked c)) ≤ length (bytes-at (checked c)))
+    × (byte_length (head_at (checked c)) ≤ length (bytes-at (checked c)))
 known c = written _ _ _ (none c)
 
 byte-length-requires : tie.Need-byte-length-requires
-byte-length-requires c κs = accepted-head _ _ (known c).0
+byte-length-requires c κs = accepted_head _ _ (known c).0
 
 abbrev passed : tie.After-byte-length → tie.Else1
 passed c = c.before
 
 slice-relend-prefix-encode : tie.Need-slice-relend-prefix-encode
-slice-relend-prefix-encode c = omega (arith, c.byte-length.ensures, (known (passed c)).1)
+slice-relend-prefix-encode c = omega (arith, c.byte_length.ensures, (known (passed c)).1)
 
 abbrev measured : tie.After-encode-arg → tie.After-byte-length
 measured c = c.before
@@ -77,15 +77,15 @@ returns-2 : tie.Need-returns-2
 returns-2 c =
     let at_length = measured (lent (stored c)) in
     let at_test = passed at_length in (
-      ap₂ written_as at_test.if1.left at_length.byte-length.ensures ∙ sym (length-answered _ _ (none at_test)),
-      ap₂ (λ l n. l ++ drop n (bytes-at (checked at_test))) (stored c).encode.ensures at_length.byte-length.ensures
+      ap₂ written_as at_test.if1.left at_length.byte_length.ensures ∙ sym (length_answered _ _ (none at_test)),
+      ap₂ (λ l n. l ++ drop n (bytes-at (checked at_test))) (stored c).encode.ensures at_length.byte_length.ensures
           ∙ sym (filled _ _ _ _ (none at_test)),
     )
 
 encode-requires : tie.Need-encode-requires
 encode-requires c κs = (
   (known (passed (measured c))).0,
-  length-take-le _ _ (slice-relend-prefix-encode (measured c)) ∙ (measured c).byte-length.ensures,
+  length-take-le _ _ (slice-relend-prefix-encode (measured c)) ∙ (measured c).byte_length.ensures,
 )
 
 same_length : tie.Need-same-length

@@ -4,7 +4,7 @@ use native.Mathlib.Omega.{arith}
 use borrow.Author.Rules.{rules}
 use lib.Dec.{T}
 use lib.Ieee.{Float, binary64, fits}
-use Rattle.doubles.proofs.PartLaws.{no_nan, exponent-fits, less-than-one, shifted, whole-fits}
+use Rattle.doubles.proofs.PartLaws.{no_nan, exponent_fits, less_than_one, shifted, whole_fits}
 use Rattle.doubles.proofs.rounded_down.Statement.{statement}
 use Rattle.doubles.proofs.rounded_down.Tie as tie
 
@@ -27,19 +27,19 @@ add-digits : tie.Need-overflow-add-digits
 add-digits c = search rules
 
 sub-result : tie.Need-overflow-sub-result
-sub-result c = omega (arith, exponent-fits (at c) (held (start c)) (start c).requires.0 (start c).requires.1)
+sub-result c = omega (arith, exponent_fits (at c) (held (start c)) (start c).requires.0 (start c).requires.1)
 
 shr-result : tie.Need-overflow-shr-result
 shr-result c = search rules
 
 returns : tie.Need-returns
-returns c = less-than-one c.before.args.x (held c.before) c.before.requires.0 c.before.requires.1 c.if1.true
+returns c = less_than_one c.before.args.x (held c.before) c.before.requires.0 c.before.requires.1 c.if1.true
 
 returns-2 : tie.Need-returns-2
 returns-2 c = shifted (at c) (held (start c)) (start c).requires.0 (start c).requires.1 c.if1.false
 
 cast-result : tie.Need-overflow-cast-result
-cast-result c = omega (arith, returns-2 c, whole-fits (at c) (held (start c)) (start c).requires.0 (start c).requires.1)
+cast-result c = omega (arith, returns-2 c, whole_fits (at c) (held (start c)) (start c).requires.0 (start c).requires.1)
 
 pub rounded-down-spec : {M : Type 1} → statement M
 rounded-down-spec =

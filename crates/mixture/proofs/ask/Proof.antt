@@ -3,18 +3,18 @@ use mathlib.Core.Path.{refl, sym, ap, ◌∙◌}
 use lib.ListN.{length}
 use borrow.Author.Rules.{rules}
 use Rattle.model.specs.declared.Rounding.TheVariants.{Down, Up}
-use Rattle.model.specs.Limits.{max-plans}
+use Rattle.model.specs.Limits.{max_plans}
 use Rattle.model.specs.Scale.{S, quotient}
-use Rattle.model.specs.Refusal.{workspace-needed}
+use Rattle.model.specs.Refusal.{workspace_needed}
 use Rattle.engine.specs.Answers.{refused}
-use Rattle.engine.proofs.AnswerLaws.{refused-out, answered-out, answer-worked}
-use Rattle.mixture_plans.specs.Rows.{components-of}
-use Rattle.mixture_plans.specs.Refusal.{ask-of-one}
-use Rattle.mixture_plans.proofs.CheckLaws.{mapped-length, MixtureFacts, mixture-facts, ask-passes}
-use Rattle.mixture.specs.Bounds.{mixture-bound, EnclosesMixture}
+use Rattle.engine.proofs.AnswerLaws.{refused_out, answered_out, answer_worked}
+use Rattle.mixture_plans.specs.Rows.{components_of}
+use Rattle.mixture_plans.specs.Refusal.{ask_of_one}
+use Rattle.mixture_plans.proofs.CheckLaws.{mapped_length, MixtureFacts, mixture_facts, ask_passes}
+use Rattle.mixture.specs.Bounds.{mixture_bound, EnclosesMixture}
 use Rattle.mixture.specs.Sums.{Askable}
-use Rattle.mixture.specs.Answers.{mixture-answer}
-use Rattle.mixture.proofs.SumLaws.{sum_fits, accepted-encloses}
+use Rattle.mixture.specs.Answers.{mixture_answer}
+use Rattle.mixture.proofs.SumLaws.{sum_fits, accepted_encloses}
 use Rattle.mixture.proofs.ask.Statement.{statement}
 use Rattle.mixture.proofs.ask.Tie as tie
 
@@ -34,23 +34,23 @@ askable c =
     let s = start (passed c) in
     let good = s.good.0.1.1.1 in
     record {
-      passes = sym (passed c).ask-refusal.ensures ∙ c.if1.false;
-      heads-long = mapped-length _ s.args.mixture.heads max-plans good.0.1.0.1;
-      weights-long = mapped-length _ s.args.mixture.weights max-plans good.1.0.1.0.1;
+      passes = sym (passed c).ask_refusal.ensures ∙ c.if1.false;
+      heads_long = mapped_length _ s.args.mixture.heads max_plans good.0.1.0.1;
+      weights_long = mapped_length _ s.args.mixture.weights max_plans good.1.0.1.0.1;
     }
 
 facts : (c : tie.Else1) → MixtureFacts (start (passed c)).args.mixture (start (passed c)).args.row.now
-facts c = let k = askable c in mixture-facts _ _ k.heads-long k.weights-long (ask-passes _ _ _ _ k.passes).0
+facts c = let k = askable c in mixture_facts _ _ k.heads_long k.weights_long (ask_passes _ _ _ _ k.passes).0
 
 ask-refusal-requires : tie.Need-ask-refusal-requires
 ask-refusal-requires c κs = search rules
 
 returns : tie.Need-returns
-unfolding mixture-answer refused
+unfolding mixture_answer refused
 returns c =
     let told = c.before in
     let a = (start told).args in
-    refused-out _ told.ask-refusal.result _ _ _ _ a.workspace.now refl told.ask-refusal.ensures c.if1.true
+    refused_out _ told.ask_refusal.result _ _ _ _ a.workspace.now refl told.ask_refusal.ensures c.if1.true
 
 -- the branch that is not refused, and both sums
 abbrev unrefused : tie.After-weighted-sums → tie.Else1
@@ -74,17 +74,17 @@ same_length : tie.Need-same-length
 same_length c = search rules
 
 returns-2 : tie.Need-returns-2
-unfolding mixture-answer mixture-bound
+unfolding mixture_answer mixture_bound
 returns-2 c =
     let sums = summed c.before.before in
     let call = sums.weighted-sums in
     let else1 = unrefused sums in
     let a = (start (passed else1)).args in
     let k = askable else1 in
-    answered-out (EnclosesMixture (components-of a.mixture a.row.now) a.question) _ _ (workspace-needed (ask-of-one a.mixture a.question)) _ a.workspace.now _ k.passes
-    (answer-worked _ _ c.before.divide.result c.divide2.result refl refl)
+    answered_out (EnclosesMixture (components_of a.mixture a.row.now) a.question) _ _ (workspace_needed (ask_of_one a.mixture a.question)) _ a.workspace.now _ k.passes
+    (answer_worked _ _ c.before.divide.result c.divide2.result refl refl)
     (c.before.divide.ensures ∙ ap (λ n. quotient Down n S) call.ensures.0) (c.divide2.ensures ∙ ap (λ n. quotient Up n S) call.ensures.1.0)
-    call.ensures.1.1 refl (accepted-encloses _ _ (facts else1) a.question)
+    call.ensures.1.1 refl (accepted_encloses _ _ (facts else1) a.question)
 
 pub ask-spec : {M : Type 1} → statement M
 ask-spec =

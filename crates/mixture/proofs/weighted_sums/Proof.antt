@@ -7,14 +7,14 @@ use lib.ListN.{length, get_or, take, drop}
 use borrow.Author.Rules.{rules}
 use Rattle.model.specs.declared.Rounding.TheVariants.{Down, Up}
 use Rattle.model.specs.Scale.{S}
-use Rattle.model.specs.Plan.{plan-of, row-length}
+use Rattle.model.specs.Plan.{plan_of, row_length}
 use Rattle.model.specs.Bounds.{lower, upper}
-use Rattle.model.specs.Memory.{zero-first}
-use Rattle.model.specs.Refusal.{outside, workspace-needed}
-use Rattle.model.proofs.Facts.{accepted-head}
-use Rattle.mixture_plans.specs.Refusal.{ask-of-one, MixtureAccepted}
-use Rattle.mixture_plans.proofs.CheckLaws.{MixtureFacts, mixture-facts, ask-passes}
-use Rattle.mixture.proofs.SumLaws.{Mixing, mixing-more, none-asked, summing-none, summing-done, summing-fits, summing-more, next-accepted, next-inside, next-asked, asked-next, reused-none, reused-more}
+use Rattle.model.specs.Memory.{zero_first}
+use Rattle.model.specs.Refusal.{outside, workspace_needed}
+use Rattle.model.proofs.Facts.{accepted_head}
+use Rattle.mixture_plans.specs.Refusal.{ask_of_one, MixtureAccepted}
+use Rattle.mixture_plans.proofs.CheckLaws.{MixtureFacts, mixture_facts, ask_passes}
+use Rattle.mixture.proofs.SumLaws.{Mixing, mixing_more, none_asked, summing_none, summing_done, summing_fits, summing_more, next_accepted, next_inside, next_asked, asked_next, reused_none, reused_more}
 use Rattle.mixture.proofs.weighted_sums.Statement.{statement}
 use Rattle.mixture.proofs.weighted_sums.Tie as tie
 
@@ -51,16 +51,16 @@ of-product c = told c.before
 -- what is known of the ask
 passes :
     (s : tie.Start invariant-loop decreases-loop) →
-    MixtureAccepted s.args.mixture s.args.row.now × ((outside s.args.question ≡ false) × (workspace-needed (ask-of-one s.args.mixture s.args.question) ≤ length s.args.workspace.now))
-passes s = ask-passes _ _ _ _ s.requires.passes
+    MixtureAccepted s.args.mixture s.args.row.now × ((outside s.args.question ≡ false) × (workspace_needed (ask_of_one s.args.mixture s.args.question) ≤ length s.args.workspace.now))
+passes s = ask_passes _ _ _ _ s.requires.passes
 
 facts : (s : tie.Start invariant-loop decreases-loop) → MixtureFacts s.args.mixture s.args.row.now
-facts s = mixture-facts _ _ s.requires.heads-long s.requires.weights-long (passes s).0
+facts s = mixture_facts _ _ s.requires.heads_long s.requires.weights_long (passes s).0
 
 loop-holds : tie.Need-loop-init invariant-loop decreases-loop
 loop-holds c =
     let f = facts c.before.before.before.before in
-    record { asked = none-asked _ _ f; lows = summing-none _ _ f Down _; highs = summing-none _ _ f Up _; space = reused-none _ _ }
+    record { asked = none_asked _ _ f; lows = summing_none _ _ f Down _; highs = summing_none _ _ f Up _; space = reused_none _ _ }
 
 mul-head : tie.Need-overflow-mul-head invariant-loop decreases-loop
 mul-head c = omega (arith, (facts (start c.before)).known.fits, c.loop-test.true)
@@ -71,15 +71,15 @@ array-copy-out-head c = omega (arith, (facts (start c.before)).known.fits, c.loo
 row-length-requires : tie.Need-row-length-requires invariant-loop decreases-loop
 row-length-requires c κs =
     let l = c.before.before in
-    accepted-head _ _ (next-accepted _ _ (facts (start l)) _ _ l.loop.invariant.asked c.before.loop-test.true)
+    accepted_head _ _ (next_accepted _ _ (facts (start l)) _ _ l.loop.invariant.asked c.before.loop-test.true)
 
 -- the plan's row lies in the lent one
 inside :
     (c : tie.After-row-length invariant-loop decreases-loop) →
-    (of_length c).loop.start + c.row-length.result ≤ length (start (of_length c)).args.row.now
+    (of_length c).loop.start + c.row_length.result ≤ length (start (of_length c)).args.row.now
 inside c =
     let l = of_length c in
-    omega (arith, c.row-length.ensures, next-inside _ _ (facts (start l)) _ _ l.loop.inv.asked (at_head c).loop-test.true)
+    omega (arith, c.row_length.ensures, next_inside _ _ (facts (start l)) _ _ l.loop.inv.asked (at_head c).loop-test.true)
 
 add-end : tie.Need-overflow-add-end invariant-loop decreases-loop
 add-end c = omega (arith, inside c)
@@ -114,15 +114,15 @@ given :
     let l = of_length (ask-lent c) in
     let a = (start l).args in
     let h = get_or a.mixture.heads l.loop.i (record { months = 0; opening = 0; sizes = 0; income = 0 }) in
-    let p = plan-of h (take (row-length h) (drop l.loop.start a.row.now)) in
+    let p = plan_of h (take (row_length h) (drop l.loop.start a.row.now)) in
     (c.ask.result.lower ≡ lower p a.question)
     × ((c.ask.result.upper ≡ upper p a.question)
-    × (c.ask.new.1.1.0 ≡ zero-first (workspace-needed (ask-of-one a.mixture a.question)) l.loop.workspace))
+    × (c.ask.new.1.1.0 ≡ zero_first (workspace_needed (ask_of_one a.mixture a.question)) l.loop.workspace))
 given c =
     let at_length = ask-lent c in
     let l = of_length at_length in
     let s = start l in
-    asked-next _ _ (facts s) _ _ l.loop.inv.asked (at_head at_length).loop-test.taken _ (passes s).1.0 _ at_length.row-length.ensures _ _ _
+    asked_next _ _ (facts s) _ _ l.loop.inv.asked (at_head at_length).loop-test.taken _ (passes s).1.0 _ at_length.row_length.ensures _ _ _
     (omega (arith, (passes s).1.1, l.loop.inv.space.long)) c.ask.ensures.0 c.ask.ensures.1.0
 
 -- the products are those of the definition
@@ -131,7 +131,7 @@ low_product :
     let l = of_length (ask-lent (of-product c)) in
     let a = (start l).args in
     let h = get_or a.mixture.heads l.loop.i (record { months = 0; opening = 0; sizes = 0; income = 0 }) in
-    c.product.result ≡ get_or a.mixture.weights l.loop.i 0 * lower (plan-of h (take (row-length h) (drop l.loop.start a.row.now))) a.question
+    c.product.result ≡ get_or a.mixture.weights l.loop.i 0 * lower (plan_of h (take (row_length h) (drop l.loop.start a.row.now))) a.question
 low_product c =
     let l = of_length (ask-lent (of-product c)) in
     c.product.ensures ∙ ap (λ n. get_or (start l).args.mixture.weights l.loop.i 0 * n) (given (of-product c)).0
@@ -141,7 +141,7 @@ high_product :
     let l = of_length (ask-lent (of-product (first-product c))) in
     let a = (start l).args in
     let h = get_or a.mixture.heads l.loop.i (record { months = 0; opening = 0; sizes = 0; income = 0 }) in
-    c.product2.result ≡ get_or a.mixture.weights l.loop.i 0 * upper (plan-of h (take (row-length h) (drop l.loop.start a.row.now))) a.question
+    c.product2.result ≡ get_or a.mixture.weights l.loop.i 0 * upper (plan_of h (take (row_length h) (drop l.loop.start a.row.now))) a.question
 high_product c =
     let l = of_length (ask-lent (of-product (first-product c))) in
     c.product2.ensures ∙ ap (λ n. get_or (start l).args.mixture.weights l.loop.i 0 * n) (given (of-product (first-product c))).1.0
@@ -151,7 +151,7 @@ unfolding S
 add-lower c =
     let at_length = ask-lent (of-product c) in
     let l = of_length at_length in
-    omega (arith, summing-fits _ _ (facts (start l)) _ _ l.loop.inv.asked (at_head at_length).loop-test.taken Down _ _ l.loop.inv.lows _ (low_product c))
+    omega (arith, summing_fits _ _ (facts (start l)) _ _ l.loop.inv.asked (at_head at_length).loop-test.taken Down _ _ l.loop.inv.lows _ (low_product c))
 
 product-requires-2 : tie.Need-product-requires-2 invariant-loop decreases-loop
 product-requires-2 c κs = search rules
@@ -161,7 +161,7 @@ unfolding S
 add-upper c =
     let at_length = ask-lent (of-product (first-product c)) in
     let l = of_length at_length in
-    omega (arith, summing-fits _ _ (facts (start l)) _ _ l.loop.inv.asked (at_head at_length).loop-test.taken Up _ _ l.loop.inv.highs _ (high_product c))
+    omega (arith, summing_fits _ _ (facts (start l)) _ _ l.loop.inv.asked (at_head at_length).loop-test.taken Up _ _ l.loop.inv.highs _ (high_product c))
 
 add-i : tie.Need-overflow-add-i invariant-loop decreases-loop
 add-i c = search rules
@@ -177,12 +177,12 @@ loop-again c =
     let f = facts (start l) in
     let inv = l.loop.inv in
     let here = (at_head at_length).loop-test.taken in
-    mixing-more _ _ _ _ _ _ _ _ _ _ _ _ _ at_length.row-length.ensures
+    mixing_more _ _ _ _ _ _ _ _ _ _ _ _ _ at_length.row_length.ensures
     (record {
-      asked = next-asked _ _ f _ _ inv.asked here;
-      lows = summing-more _ _ f _ _ inv.asked here Down _ _ inv.lows _ (low_product (first-product c));
-      highs = summing-more _ _ f _ _ inv.asked here Up _ _ inv.highs _ (high_product c);
-      space = reused-more _ _ _ _ _ inv.space asked.ask.kept.1.1.0 (given asked).1.1;
+      asked = next_asked _ _ f _ _ inv.asked here;
+      lows = summing_more _ _ f _ _ inv.asked here Down _ _ inv.lows _ (low_product (first-product c));
+      highs = summing_more _ _ f _ _ inv.asked here Up _ _ inv.highs _ (high_product c);
+      space = reused_more _ _ _ _ _ inv.space asked.ask.kept.1.1.0 (given asked).1.1;
     })
 
 same_length : tie.Need-same-length invariant-loop decreases-loop
@@ -193,9 +193,9 @@ returns c =
     let l = c.before in
     let f = facts (start l) in
     let inv = l.loop.invariant in (
-      summing-done _ _ f _ _ inv.asked Down _ _ inv.lows c.loop-test.false,
+      summing_done _ _ f _ _ inv.asked Down _ _ inv.lows c.loop-test.false,
       (
-        summing-done _ _ f _ _ inv.asked Up _ _ inv.highs c.loop-test.false,
+        summing_done _ _ f _ _ inv.asked Up _ _ inv.highs c.loop-test.false,
         inv.space.cleared (omega (arith, f.known.some, c.loop-test.false)),
       ),
     )

@@ -6,14 +6,14 @@ use native.Mathlib.Omega.{arith}
 use borrow.Author.Rules.{rules}
 use borrow.Author.Tests.{eq-eqb, lt-ltb, le-ltb}
 use Rattle.model.specs.Refusal.{first}
-use Rattle.mixture_bytes.specs.Format.{count-in}
-use Rattle.mixture_bytes.specs.Refusal.{count-checks}
-use Rattle.mixture_bytes.proofs.PartLaws.{by-outside, by_weights}
+use Rattle.mixture_bytes.specs.Format.{count_in}
+use Rattle.mixture_bytes.specs.Refusal.{count_checks}
+use Rattle.mixture_bytes.proofs.PartLaws.{by_outside, by_weights}
 use Rattle.mixture_bytes.proofs.count_refusal.Statement.{statement}
 use Rattle.mixture_bytes.proofs.count_refusal.Tie as tie
 
 returns : tie.Need-returns
-unfolding count-checks first
+unfolding count_checks first
 returns c = rw (eq-eqb _ 0 c.if1.true)
 
 shared-slice-read-index : tie.Need-shared-slice-read-index
@@ -33,16 +33,16 @@ abbrev counted : tie.After-count-is-outside → tie.After-index
 counted c = c.before
 
 -- the count is the first byte
-count-is : (c : tie.After-index) → c.index.result ≡ count-in (some c).before.before.args.bytes.now
-count-is c = c.index.ensures
+count_is : (c : tie.After-index) → c.index.result ≡ count_in (some c).before.before.args.bytes.now
+count_is c = c.index.ensures
 
 small : (c : tie.After-index) → c.index.result < 256
-small c = let told = c.before.shared-slice-known2.given 0 in omega (arith, count-is c, told)
+small c = let told = c.before.shared-slice-known2.given 0 in omega (arith, count_is c, told)
 
 returns-2 : tie.Need-returns-2
 returns-2 c =
     let told = c.before in
-    by-outside _ (some (counted told)).if1.false _ (count-is (counted told)) _ told.count-is-outside.ensures c.if2.true
+    by_outside _ (some (counted told)).if1.false _ (count_is (counted told)) _ told.count-is-outside.ensures c.if2.true
 
 mul-if3 : tie.Need-overflow-mul-if3
 mul-if3 c = omega (arith, small (counted c.before))
@@ -53,12 +53,12 @@ add-if3 c = omega (arith, small (counted c.before))
 returns-3 : tie.Need-returns-3
 returns-3 c =
     let told = c.before.before in
-    ap (λ (b : Bool). cond b 1 0) (sym (lt-ltb _ _ c.if3.true)) ∙ by_weights _ (some (counted told)).if1.false _ (count-is (counted told)) _ told.count-is-outside.ensures c.before.if2.false
+    ap (λ (b : Bool). cond b 1 0) (sym (lt-ltb _ _ c.if3.true)) ∙ by_weights _ (some (counted told)).if1.false _ (count_is (counted told)) _ told.count-is-outside.ensures c.before.if2.false
 
 returns-4 : tie.Need-returns-4
 returns-4 c =
     let told = c.before.before in
-    ap (λ (b : Bool). cond b 1 0) (sym (le-ltb _ _ c.if3.false)) ∙ by_weights _ (some (counted told)).if1.false _ (count-is (counted told)) _ told.count-is-outside.ensures c.before.if2.false
+    ap (λ (b : Bool). cond b 1 0) (sym (le-ltb _ _ c.if3.false)) ∙ by_weights _ (some (counted told)).if1.false _ (count_is (counted told)) _ told.count-is-outside.ensures c.before.if2.false
 
 pub count-refusal-spec : {M : Type 1} → statement M
 count-refusal-spec =

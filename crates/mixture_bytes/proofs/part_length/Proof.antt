@@ -17,7 +17,7 @@ lesser-requires c κs = search rules
 
 returns-2 : tie.Need-returns-2
 returns-2 c =
-    rw (c.before.before.before.if1.false, c.lesser.ensures, c.before.byte-length.ensures, c.before.before.head_of.ensures)
+    rw (c.before.before.before.if1.false, c.lesser.ensures, c.before.byte_length.ensures, c.before.before.head_of.ensures)
 
 pub part-length-spec : {M : Type 1} → statement M
 part-length-spec =

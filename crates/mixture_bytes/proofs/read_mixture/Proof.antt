@@ -5,8 +5,8 @@ use native.Mathlib.Omega.{arith}
 use lib.ListN.{length, length-take, length-drop}
 use lib.Seq.{length-take-le}
 use borrow.Author.Rules.{rules}
-use Rattle.mixture_bytes.specs.Format.{count-in}
-use Rattle.mixture_bytes.proofs.MixtureLaws.{Counted, count-known, refused-early, refused-plan, lent-inside, read_as}
+use Rattle.mixture_bytes.specs.Format.{count_in}
+use Rattle.mixture_bytes.proofs.MixtureLaws.{Counted, count_known, refused_early, refused_plan, lent_inside, read_as}
 use Rattle.mixture_bytes.proofs.read_mixture.Statement.{statement}
 use Rattle.mixture_bytes.proofs.read_mixture.Tie as tie
 
@@ -31,10 +31,10 @@ weighed c = c.before
 
 -- what is known of the count
 known : (c : tie.Else1) → Counted (start c.before).args.bytes.now
-known c = count-known _ _ c.before.count-refusal.ensures c.if1.false
+known c = count_known _ _ c.before.count_refusal.ensures c.if1.false
 
-count-is : (c : tie.After-index) → c.index.result ≡ count-in (start (told c)).args.bytes.now
-count-is c = c.index.ensures
+count_is : (c : tie.After-index) → c.index.result ≡ count_in (start (told c)).args.bytes.now
+count_is c = c.index.ensures
 
 blank-rows-requires : tie.Need-blank-rows-requires
 blank-rows-requires c κs = search rules
@@ -46,7 +46,7 @@ count-refusal-requires : tie.Need-count-refusal-requires
 count-refusal-requires c κs = search rules
 
 returns : tie.Need-returns
-returns c = (refused-early _ _ c.before.count-refusal.ensures c.if1.true, λ z. absurd (c.if1.true z))
+returns c = (refused_early _ _ c.before.count_refusal.ensures c.if1.true, λ z. absurd (c.if1.true z))
 
 shared-slice-read-index : tie.Need-shared-slice-read-index
 shared-slice-read-index c = omega (arith, (known c.before).enough)
@@ -55,16 +55,16 @@ index-requires : tie.Need-index-requires
 index-requires c κs = search rules
 
 mul-start : tie.Need-overflow-mul-start
-mul-start c = omega (arith, count-is c, (known (passed c)).few)
+mul-start c = omega (arith, count_is c, (known (passed c)).few)
 
 add_start : tie.Need-overflow-add-start
-add_start c = omega (arith, count-is c, (known (passed c)).few)
+add_start c = omega (arith, count_is c, (known (passed c)).few)
 
 sub-read-plans : tie.Need-overflow-sub-read-plans
-sub-read-plans c = omega (arith, count-is c, (known (passed c)).enough)
+sub-read-plans c = omega (arith, count_is c, (known (passed c)).enough)
 
 part-read-plans-start : tie.Need-slice-bounds-read-plans-start
-part-read-plans-start c = omega (arith, count-is c, (known (passed c)).enough)
+part-read-plans-start c = omega (arith, count_is c, (known (passed c)).enough)
 
 part-read-plans-end : tie.Need-slice-bounds-read-plans-end
 part-read-plans-end c = search rules
@@ -76,7 +76,7 @@ read-plans-requires : tie.Need-read-plans-requires
 read-plans-requires c κs =
     let at-index = c.before.before in
     let k = known (passed at-index) in
-    ((omega (arith, count-is at-index, k.some), (omega (arith, count-is at-index, k.few), (told at-index).before.no-heads.ensures)), sym (told at-index).before.before.blank-rows.ensures.1)
+    ((omega (arith, count_is at-index, k.some), (omega (arith, count_is at-index, k.few), (told at-index).before.no-heads.ensures)), sym (told at-index).before.before.blank-rows.ensures.1)
 
 sub-read-weights : tie.Need-overflow-sub-read-weights
 sub-read-weights c = omega (arith, (known (passed (counted c.before.before))).enough)
@@ -91,13 +91,13 @@ read-weights-requires : tie.Need-read-weights-requires
 read-weights-requires c κs =
     let at-index = counted c.before.before.before in
     let k = known (passed at-index) in
-    (omega (arith, count-is at-index, k.few), simp (length-take, length-drop) (omega (arith, count-is at-index, k.enough)))
+    (omega (arith, count_is at-index, k.few), simp (length-take, length-drop) (omega (arith, count_is at-index, k.enough)))
 
 returns-2 : tie.Need-returns-2
 returns-2 c =
     let at-plans = plans c.before in
     let at-index = counted at-plans in (
-      refused-plan _ _ (told at-index).count-refusal.ensures (passed at-index).if1.left _ (count-is at-index) _ at-plans.read-plans.ensures.0 c.if2.true,
+      refused_plan _ _ (told at-index).count_refusal.ensures (passed at-index).if1.left _ (count_is at-index) _ at-plans.read-plans.ensures.0 c.if2.true,
       λ z. absurd (c.if2.true z),
     )
 
@@ -107,7 +107,7 @@ inside c =
     let at-weights = weighed c in
     let at-plans = plans at-weights in
     let at-index = counted at-plans in
-    lent-inside _ _ (told at-index).count-refusal.ensures (passed at-index).if1.left _ (count-is at-index) _ at-plans.read-plans.ensures.0 c.if2.false _ _
+    lent_inside _ _ (told at-index).count_refusal.ensures (passed at-index).if1.left _ (count_is at-index) _ at-plans.read-plans.ensures.0 c.if2.false _ _
     at-plans.read-plans.ensures.1.0 _ _ (told at-index).before.before.blank-rows.ensures.1 at-plans.read-plans.ensures.1.1 at-plans.read-plans.kept.1.1.1.0 _
     at-weights.read-weights.ensures.0 at-weights.read-weights.ensures.1
 
@@ -126,9 +126,9 @@ returns-3 c =
     let at-weights = weighed else2 in
     let at-plans = plans at-weights in
     let at-index = counted at-plans in
-    read_as _ _ (told at-index).count-refusal.ensures (passed at-index).if1.left _ (count-is at-index) _ at-plans.read-plans.ensures.0 else2.if2.false _ _
+    read_as _ _ (told at-index).count_refusal.ensures (passed at-index).if1.left _ (count_is at-index) _ at-plans.read-plans.ensures.0 else2.if2.false _ _
     at-plans.read-plans.ensures.1.0 _ _ (told at-index).before.before.blank-rows.ensures.1 at-plans.read-plans.ensures.1.1 at-plans.read-plans.kept.1.1.1.0 _
-    at-weights.read-weights.ensures.0 at-weights.read-weights.ensures.1 _ c.mixture-refusal.ensures
+    at-weights.read-weights.ensures.0 at-weights.read-weights.ensures.1 _ c.mixture_refusal.ensures
 
 pub read-mixture-spec : {M : Type 1} → statement M
 read-mixture-spec =

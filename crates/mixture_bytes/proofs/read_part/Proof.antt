@@ -6,7 +6,7 @@ use lib.Seq.{length-take-le}
 use borrow.Author.Rules.{rules}
 use Rattle.model.specs.Format.{head_bytes, head_of}
 use Rattle.model.specs.Refusal.{HeadAccepted}
-use Rattle.mixture_bytes.proofs.PartLaws.{early-is, early-none, row_kept, part-inside, part-answered}
+use Rattle.mixture_bytes.proofs.PartLaws.{early_is, early_none, row_kept, part_inside, part_answered}
 use Rattle.mixture_bytes.proofs.read_part.Statement.{statement}
 use Rattle.mixture_bytes.proofs.read_part.Tie as tie
 
@@ -24,7 +24,7 @@ abbrev told : tie.After-part-length → tie.Else1
 told c = c.before
 
 known : (c : tie.Else1) → (head_bytes ≤ length (start (early c)).args.bytes.now) × HeadAccepted (head_of (start (early c)).args.bytes.now)
-known c = early-none _ _ (early c).early-refusal.ensures c.if1.false
+known c = early_none _ _ (early c).early_refusal.ensures c.if1.false
 
 early-refusal-requires : tie.Need-early-refusal-requires
 early-refusal-requires c κs = search rules
@@ -33,7 +33,7 @@ returns : tie.Need-returns
 returns c =
     let at-early = c.before in
     let a = (start at-early).args in
-    let number = early-is a.last a.bytes.now _ at-early.early-refusal.ensures c.if1.true in
+    let number = early_is a.last a.bytes.now _ at-early.early_refusal.ensures c.if1.true in
     (number, (λ z. absurd (c.if1.true z), sym (row_kept a.last a.bytes.now a.row.now _ (start at-early).requires number c.if1.true)))
 
 part-length-requires : tie.Need-part-length-requires
@@ -42,7 +42,7 @@ part-length-requires c κs = known c
 slice-aggregate-read : tie.Need-slice-aggregate-read
 slice-aggregate-read c =
     let a = (start (early (told (measured c)))).args in
-    sym (length-take-le _ _ (part-inside a.last a.bytes.now _ (measured c).part_length.ensures))
+    sym (length-take-le _ _ (part_inside a.last a.bytes.now _ (measured c).part_length.ensures))
 
 read-requires : tie.Need-read-requires
 read-requires c κs = search rules
@@ -56,7 +56,7 @@ returns-2 c =
     let at_length = measured read.before.before in
     let a = (start (early (told at_length))).args in
     let room = (start (early (told at_length))).requires in
-    part-answered a.last a.bytes.now (known (told at_length)).0 _ at_length.part_length.ensures a.row.now _ room _ read.read.ensures.0 read.read.ensures.1
+    part_answered a.last a.bytes.now (known (told at_length)).0 _ at_length.part_length.ensures a.row.now _ room _ read.read.ensures.0 read.read.ensures.1
 
 pub read-part-spec : {M : Type 1} → statement M
 read-part-spec =

@@ -7,11 +7,11 @@ use lib.ListN.{length, drop, set}
 use borrow.Rule.Slice.PartMut.{mid_of, put_mid, same_len_mid}
 use borrow.Author.Rules.{rules}
 use Rattle.model.specs.Limits.{row_room}
-use Rattle.model.specs.Refusal.{read-refusal}
-use Rattle.codec.specs.Answers.{row-after}
+use Rattle.model.specs.Refusal.{read_refusal}
+use Rattle.codec.specs.Answers.{row_after}
 use Rattle.mixture_bytes.specs.Format.{part_of}
 use Rattle.mixture_bytes.specs.Reading.{PartRead}
-use Rattle.mixture_bytes.proofs.ReadingLaws.{Reading, reading-none, reading-room, reading-lent, reading-refused, reading-more, reading-done, lent-number, lent-read, lent_row}
+use Rattle.mixture_bytes.proofs.ReadingLaws.{Reading, reading_none, reading_room, reading_lent, reading_refused, reading_more, reading_done, lent_number, lent_read, lent_row}
 use Rattle.mixture_bytes.proofs.read_plans.Statement.{statement}
 use Rattle.mixture_bytes.proofs.read_plans.Tie as tie
 
@@ -38,13 +38,13 @@ abbrev counted : tie.After-row-length invariant-loop decreases-loop → tie.Else
 counted c = c.before
 
 loop-holds : tie.Need-loop-init invariant-loop decreases-loop
-loop-holds c = reading-none _ _ _ _ c.before.before.requires.0.1.1
+loop-holds c = reading_none _ _ _ _ c.before.before.requires.0.1.1
 
 -- room for every plan's row
 room : (c : tie.In-loop invariant-loop decreases-loop) → c.before.loop.used + row_room ≤ length c.before.loop.row
 room c =
     let s = start c.before in
-    reading-room _ _ _ s.pre.0.1.0 s.pre.1 _ _ _ _ _ c.before.loop.invariant c.loop-test.true
+    reading_room _ _ _ s.pre.0.1.0 s.pre.1 _ _ _ _ _ c.before.loop.invariant c.loop-test.true
 
 add-room : tie.Need-overflow-add-room invariant-loop decreases-loop
 add-room c = omega (arith, room c)
@@ -76,7 +76,7 @@ part-read-part-end-2 c = room c.before
 read-part-requires : tie.Need-read-part-requires invariant-loop decreases-loop
 read-part-requires c κs =
     let s = start c.before.before.before in
-    reading-lent _ _ _ s.pre.0.1.0 s.pre.1 _ _ _ _ _ c.before.before.before.loop.invariant c.before.before.loop-test.true
+    reading_lent _ _ _ s.pre.0.1.0 s.pre.1 _ _ _ _ _ c.before.before.before.loop.invariant c.before.before.loop-test.true
 
 same_length : tie.Need-same-length invariant-loop decreases-loop
 same_length c =
@@ -89,22 +89,22 @@ number :
     (c : tie.After-read-part invariant-loop decreases-loop) →
     let l = of_part c in
     let a = (start l).args in
-    c.read-part.result.refusal ≡ read-refusal (part_of (eqb (l.loop.i + 1) a.count) (drop l.loop.start a.bytes.now)) row_room
-number c = lent-number _ (of_part c).loop.start _ _ c.read-part.ensures.0
+    c.read-part.result.refusal ≡ read_refusal (part_of (eqb (l.loop.i + 1) a.count) (drop l.loop.start a.bytes.now)) row_room
+number c = lent_number _ (of_part c).loop.start _ _ c.read-part.ensures.0
 
 part :
     (c : tie.After-read-part invariant-loop decreases-loop) → c.read-part.result.refusal ≡ 0 →
     let l = of_part c in
     let a = (start l).args in
     PartRead (eqb (l.loop.i + 1) a.count) (drop l.loop.start a.bytes.now) c.read-part.result.head c.read-part.result.length
-part c none = lent-read _ (of_part c).loop.start _ _ _ (c.read-part.ensures.1.0 none)
+part c none = lent_read _ (of_part c).loop.start _ _ _ (c.read-part.ensures.1.0 none)
 
 back :
     (c : tie.After-read-part invariant-loop decreases-loop) →
     let l = of_part c in
     let a = (start l).args in
     c.read-part.new.1.1.0
-    ≡ row-after (part_of (eqb (l.loop.i + 1) a.count) (drop l.loop.start a.bytes.now)) (mid_of l.loop.used (l.loop.used + row_room - l.loop.used) l.loop.row)
+    ≡ row_after (part_of (eqb (l.loop.i + 1) a.count) (drop l.loop.start a.bytes.now)) (mid_of l.loop.used (l.loop.used + row_room - l.loop.used) l.loop.row)
 back c =
     let l = (of_part c).loop in
     lent_row _ l.start _ (mid_of l.used (l.used + row_room - l.used) l.row) _ c.read-part.ensures.1.1
@@ -114,7 +114,7 @@ returns c =
     let read = c.before.before.before.before in
     let l = of_part read in
     let s = start l in
-    let refused = reading-refused _ _ _ s.pre.0.1.0 s.pre.1 _ _ _ _ _ l.loop.inv (lent read).loop-test.true _ (number read) _ (back read) c.if1.true in
+    let refused = reading_refused _ _ _ s.pre.0.1.0 s.pre.1 _ _ _ _ _ l.loop.inv (lent read).loop-test.true _ (number read) _ (back read) c.if1.true in
     (refused.0, (λ z. absurd (c.if1.true z), refused.1))
 
 mul-heads : tie.Need-overflow-mul-heads invariant-loop decreases-loop
@@ -133,13 +133,13 @@ next :
     let l = of_part read in
     let a = (start l).args in
     Reading a.bytes.now a.count a.row.now (put_mid l.loop.used (l.loop.used + row_room - l.loop.used) l.loop.row read.read-part.last.1.1.0)
-    (set l.loop.heads l.loop.i read.read-part.result.head) (l.loop.i + 1) (l.loop.start + read.read-part.result.length) (l.loop.used + c.row-length.result)
+    (set l.loop.heads l.loop.i read.read-part.result.head) (l.loop.i + 1) (l.loop.start + read.read-part.result.length) (l.loop.used + c.row_length.result)
 next c =
     let read = told (counted c) in
     let l = of_part read in
     let s = start l in
     let none = (counted c).if1.false in
-    reading-more _ _ _ s.pre.0.1.0 s.pre.1 _ _ _ _ _ l.loop.inv (lent read).loop-test.taken _ (number read) _ (back read) none _ _ (part read none) _ c.row-length.ensures
+    reading_more _ _ _ s.pre.0.1.0 s.pre.1 _ _ _ _ _ l.loop.inv (lent read).loop-test.taken _ (number read) _ (back read) none _ _ (part read none) _ c.row_length.ensures
 
 add-used : tie.Need-overflow-add-used invariant-loop decreases-loop
 add-used c =
@@ -164,7 +164,7 @@ returns-2 : tie.Need-returns-2 invariant-loop decreases-loop
 returns-2 c =
     let l = c.before in
     let s = start l in
-    let done = reading-done _ _ _ s.pre.0.1.0 s.pre.1 _ _ _ _ _ l.loop.invariant c.loop-test.false in
+    let done = reading_done _ _ _ s.pre.0.1.0 s.pre.1 _ _ _ _ _ l.loop.invariant c.loop-test.false in
     (done.0, (λ z. done.1.0, done.1.1))
 
 pub read-plans-spec : {M : Type 1} → statement M

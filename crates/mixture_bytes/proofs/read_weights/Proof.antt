@@ -2,7 +2,7 @@
 use Prim.Native.Nat.{◌-◌}
 use native.Mathlib.Omega.{arith}
 use borrow.Author.Rules.{rules}
-use Rattle.mixture_bytes.proofs.WeightLaws.{Weighing, weighing-none, weighing-more, weighing-done}
+use Rattle.mixture_bytes.proofs.WeightLaws.{Weighing, weighing_none, weighing_more, weighing_done}
 use Rattle.mixture_bytes.proofs.read_weights.Statement.{statement}
 use Rattle.mixture_bytes.proofs.read_weights.Tie as tie
 
@@ -13,7 +13,7 @@ abbrev decreases-loop : tie.decreases-loop
 decreases-loop bytes count weights₀ i₀ weights i = count - i
 
 loop-holds : tie.Need-loop-init invariant-loop decreases-loop
-loop-holds c = weighing-none _ _ _ (search rules)
+loop-holds c = weighing_none _ _ _ (search rules)
 
 mul-big-endian : tie.Need-overflow-mul-big-endian invariant-loop decreases-loop
 mul-big-endian c = omega (arith, c.before.before.before.requires, c.loop-test.true)
@@ -37,10 +37,10 @@ loop-less : tie.Need-loop-smaller invariant-loop decreases-loop
 loop-less c = search rules
 
 loop-again : tie.Need-loop-preserved invariant-loop decreases-loop
-loop-again c = weighing-more _ _ _ _ c.before.before.loop.invariant c.before.loop-test.true c.before.before.before.before.requires.0 _ c.big_endian.ensures.0
+loop-again c = weighing_more _ _ _ _ c.before.before.loop.invariant c.before.loop-test.true c.before.before.before.before.requires.0 _ c.big_endian.ensures.0
 
 returns : tie.Need-returns invariant-loop decreases-loop
-returns c = (weighing-done _ _ _ _ c.before.loop.invariant c.loop-test.false, c.before.loop.invariant.long)
+returns c = (weighing_done _ _ _ _ c.before.loop.invariant c.loop-test.false, c.before.loop.invariant.long)
 
 pub read-weights-spec : {M : Type 1} → statement M
 read-weights-spec =

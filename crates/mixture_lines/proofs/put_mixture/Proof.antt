@@ -5,16 +5,16 @@ use mathlib.Core.List.{List}
 use native.Mathlib.Omega.{arith}
 use borrow.Author.Rules.{rules}
 use Rattle.model.specs.declared.Question.TheVariants.{Survive, Both, High, Low}
-use Rattle.model.proofs.Facts.{HeadFacts, head-facts}
-use Rattle.text.proofs.TextLaws.{appended-more}
-use Rattle.mixture_plans.specs.Refusal.{plans-head}
+use Rattle.model.proofs.Facts.{HeadFacts, head_facts}
+use Rattle.text.proofs.TextLaws.{appended_more}
+use Rattle.mixture_plans.specs.Refusal.{plans_head}
 use Rattle.report_lines.specs.Asking.{Cleared}
-use Rattle.report_lines.proofs.AskingLaws.{cleared_more, cleared-long}
-use Rattle.report_lines.proofs.LineLaws.{head-ends}
-use Rattle.report_groups.specs.Groups.{most-lines}
-use Rattle.report_groups.proofs.GroupLaws.{Leaves, group-leaves}
-use Rattle.mixture_lines.specs.Lines.{mixture-report, mixture-needs}
-use Rattle.mixture_lines.proofs.AskingLaws.{mixture-short, head_ok, answerable-still}
+use Rattle.report_lines.proofs.AskingLaws.{cleared_more, cleared_long}
+use Rattle.report_lines.proofs.LineLaws.{head_ends}
+use Rattle.report_groups.specs.Groups.{most_lines}
+use Rattle.report_groups.proofs.GroupLaws.{Leaves, group_leaves}
+use Rattle.mixture_lines.specs.Lines.{mixture_report, mixture_needs}
+use Rattle.mixture_lines.proofs.AskingLaws.{mixture_short, head_ok, answerable_still}
 use Rattle.mixture_lines.proofs.put_mixture.Statement.{statement}
 use Rattle.mixture_lines.proofs.put_mixture.Tie as tie
 
@@ -53,35 +53,35 @@ of-high c = of-both (both c.before)
 abbrev of_low : tie.After-put-group4 → tie.Start
 of_low c = of-high (high c.before)
 
-known : (s : tie.Start) → HeadFacts (plans-head s.args.mixture)
-known s = head-facts _ (head_ok s.requires.0)
+known : (s : tie.Start) → HeadFacts (plans_head s.args.mixture)
+known s = head_facts _ (head_ok s.requires.0)
 
 -- the room that each call leaves
 abbrev LeavesOf : tie.Start → List ℕ → ℕ → ℕ → Type 0
 LeavesOf s text end lines = Leaves s.args.text.now text end lines
 
-after-head :
+after_head :
     (c : tie.After-put-head)
-    → LeavesOf (of-head c) c.put-head.new.0 c.put-head.result (most-lines Survive + most-lines (Both 0) + most-lines (High 0) + most-lines (Low 0))
-after-head c = record { long = c.put-head.auto.0; room = omega (arith, head-ends _ c.put-head.ensures, (of-head c).requires.1) }
+    → LeavesOf (of-head c) c.put-head.new.0 c.put-head.result (most_lines Survive + most_lines (Both 0) + most_lines (High 0) + most_lines (Low 0))
+after_head c = record { long = c.put-head.auto.0; room = omega (arith, head_ends _ c.put-head.ensures, (of-head c).requires.1) }
 
 after-survive :
     (c : tie.After-put-group)
-    → LeavesOf (of-survive c) c.put-group.new.0 c.put-group.result (most-lines (Both 0) + most-lines (High 0) + most-lines (Low 0))
+    → LeavesOf (of-survive c) c.put-group.new.0 c.put-group.result (most_lines (Both 0) + most_lines (High 0) + most_lines (Low 0))
 after-survive c =
-    group-leaves _ _ Survive _ (mixture-short _) (known (of-survive c)) (after-head (head c.before)) (omega arith) c.put-group.auto.0 c.put-group.ensures.0
+    group_leaves _ _ Survive _ (mixture_short _) (known (of-survive c)) (after_head (head c.before)) (omega arith) c.put-group.auto.0 c.put-group.ensures.0
 
-after_both : (c : tie.After-put-group2) → LeavesOf (of-both c) c.put-group2.new.0 c.put-group2.result (most-lines (High 0) + most-lines (Low 0))
+after_both : (c : tie.After-put-group2) → LeavesOf (of-both c) c.put-group2.new.0 c.put-group2.result (most_lines (High 0) + most_lines (Low 0))
 after_both c =
-    group-leaves _ _ (Both 0) _ (mixture-short _) (known (of-both c)) (after-survive (survive c.before)) (omega arith) c.put-group2.auto.0 c.put-group2.ensures.0
+    group_leaves _ _ (Both 0) _ (mixture_short _) (known (of-both c)) (after-survive (survive c.before)) (omega arith) c.put-group2.auto.0 c.put-group2.ensures.0
 
-after-high : (c : tie.After-put-group3) → LeavesOf (of-high c) c.put-group3.new.0 c.put-group3.result (most-lines (Low 0))
+after-high : (c : tie.After-put-group3) → LeavesOf (of-high c) c.put-group3.new.0 c.put-group3.result (most_lines (Low 0))
 after-high c =
-    group-leaves _ _ (High 0) _ (mixture-short _) (known (of-high c)) (after_both (both c.before)) (omega arith) c.put-group3.auto.0 c.put-group3.ensures.0
+    group_leaves _ _ (High 0) _ (mixture_short _) (known (of-high c)) (after_both (both c.before)) (omega arith) c.put-group3.auto.0 c.put-group3.ensures.0
 
 -- and what all of them leave of the workspace
 all-cleared :
-    (c : tie.After-put-group4) → Cleared (mixture-needs (of_low c).args.mixture) (of_low c).args.workspace.now c.put-group4.new.1.1.1.1.1.0
+    (c : tie.After-put-group4) → Cleared (mixture_needs (of_low c).args.mixture) (of_low c).args.workspace.now c.put-group4.new.1.1.1.1.1.0
 all-cleared c =
     let at_high = high c.before in
     let at_both = both at_high.before in
@@ -95,20 +95,20 @@ put-head-requires : tie.Need-put-head-requires
 put-head-requires c κs = search rules
 
 put-group-requires : tie.Need-put-group-requires
-put-group-requires c κs = ((of-head (head c)).requires.0, omega (arith, (after-head (head c)).long, (after-head (head c)).room))
+put-group-requires c κs = ((of-head (head c)).requires.0, omega (arith, (after_head (head c)).long, (after_head (head c)).room))
 
 put-group-requires-2 : tie.Need-put-group-requires-2
 put-group-requires-2 c κs =
     let at-survive = survive c in
     let left = after-survive at-survive in
-    (answerable-still (of-survive at-survive).pre.0 at-survive.put-group.ensures.1, omega (arith, left.long, left.room))
+    (answerable_still (of-survive at-survive).pre.0 at-survive.put-group.ensures.1, omega (arith, left.long, left.room))
 
 put-group-requires-3 : tie.Need-put-group-requires-3
 put-group-requires-3 c κs =
     let at_both = both c in
     let at-survive = survive at_both.before in
     let left = after_both at_both in (
-      answerable-still (answerable-still (of-survive at-survive).pre.0 at-survive.put-group.ensures.1) at_both.put-group2.ensures.1,
+      answerable_still (answerable_still (of-survive at-survive).pre.0 at-survive.put-group.ensures.1) at_both.put-group2.ensures.1,
       omega (arith, left.long, left.room),
     )
 
@@ -118,8 +118,8 @@ put-group-requires-4 c κs =
     let at_both = both at_high.before in
     let at-survive = survive at_both.before in
     let left = after-high at_high in (
-      answerable-still
-          (answerable-still (answerable-still (of-survive at-survive).pre.0 at-survive.put-group.ensures.1) at_both.put-group2.ensures.1)
+      answerable_still
+          (answerable_still (answerable_still (of-survive at-survive).pre.0 at-survive.put-group.ensures.1) at_both.put-group2.ensures.1)
           at_high.put-group3.ensures.1,
       omega (arith, left.long, left.room),
     )
@@ -128,18 +128,18 @@ same_length : tie.Need-same-length
 same_length c = (low c).put-group4.auto.0 ∙ (after-high (high (low c).before)).long
 
 same-length-2 : tie.Need-same-length-2
-same-length-2 c = cleared-long (of_low (low c)).requires.0.room (all-cleared (low c))
+same-length-2 c = cleared_long (of_low (low c)).requires.0.room (all-cleared (low c))
 
 returns : tie.Need-returns
-unfolding mixture-report
+unfolding mixture_report
 returns c =
     let at_high = high (low c).before in
     let at_both = both at_high.before in
     let at-survive = survive at_both.before in
     let at_head = head at-survive.before in (
-      appended-more
-          (appended-more
-          (appended-more (appended-more at_head.put-head.ensures at-survive.put-group.ensures.0) at_both.put-group2.ensures.0)
+      appended_more
+          (appended_more
+          (appended_more (appended_more at_head.put-head.ensures at-survive.put-group.ensures.0) at_both.put-group2.ensures.0)
           at_high.put-group3.ensures.0)
           (low c).put-group4.ensures.0,
       all-cleared (low c),

@@ -2,8 +2,8 @@
 use mathlib.Core.Path.{ap, ◌∙◌}
 use borrow.Author.Rules.{rules}
 use Rattle.engine.specs.declared.Answer.{Answer}
-use Rattle.mixture_lines.specs.Lines.{mixture-line}
-use Rattle.mixture_lines.proofs.AskingLaws.{asked, asked-clears}
+use Rattle.mixture_lines.specs.Lines.{mixture_line}
+use Rattle.mixture_lines.proofs.AskingLaws.{asked, asked_clears}
 use Rattle.mixture_lines.proofs.put_question.Statement.{statement}
 use Rattle.mixture_lines.proofs.put_question.Tie as tie
 
@@ -33,14 +33,14 @@ same-length-2 : tie.Need-same-length-2
 same-length-2 c = search rules
 
 returns : tie.Need-returns
-unfolding mixture-line
+unfolding mixture_line
 returns c =
     let put = c.before.before in
     let call = told put.before in
     let pre = (start call).pre in
     let answer = call.ask.ensures.0 ∙ asked pre.0 _ pre.1.0 in (
       rw (← ap (λ (a : Answer). a.lower) answer, ← ap (λ (a : Answer). a.upper) answer) put.put-bounds.ensures,
-      asked-clears pre.0 _ pre.1.0 call.ask.ensures.1.0,
+      asked_clears pre.0 _ pre.1.0 call.ask.ensures.1.0,
     )
 
 pub put-question-spec : {M : Type 1} → statement M

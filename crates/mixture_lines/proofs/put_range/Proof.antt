@@ -4,20 +4,20 @@ use mathlib.Core.Path.{◌≡◌}
 use mathlib.Core.Bool.{false}
 use borrow.Author.Rules.{rules}
 use Rattle.model.specs.Refusal.{outside}
-use Rattle.text.proofs.TextLaws.{appending-room-each}
-use Rattle.mixture_plans.specs.Rows.{components-of}
-use Rattle.mixture_plans.specs.Refusal.{plans-head}
-use Rattle.report_lines.specs.Lines.{line-room}
-use Rattle.report_lines.proofs.AskingLaws.{cleared-long}
-use Rattle.report_groups.proofs.GroupLaws.{Putting, putting-none, putting-more, putting-done}
-use Rattle.mixture_lines.specs.Lines.{mixture-line}
-use Rattle.mixture_lines.proofs.AskingLaws.{mixture-short, answerable-still}
+use Rattle.text.proofs.TextLaws.{appending_room_each}
+use Rattle.mixture_plans.specs.Rows.{components_of}
+use Rattle.mixture_plans.specs.Refusal.{plans_head}
+use Rattle.report_lines.specs.Lines.{line_room}
+use Rattle.report_lines.proofs.AskingLaws.{cleared_long}
+use Rattle.report_groups.proofs.GroupLaws.{Putting, putting_none, putting_more, putting_done}
+use Rattle.mixture_lines.specs.Lines.{mixture_line}
+use Rattle.mixture_lines.proofs.AskingLaws.{mixture_short, answerable_still}
 use Rattle.mixture_lines.proofs.put_range.Statement.{statement}
 use Rattle.mixture_lines.proofs.put_range.Tie as tie
 
 abbrev invariant-loop : tie.invariant-loop
 invariant-loop text₀ at mixture question first count row workspace₀ end₀ i₀ text workspace end i =
-    Putting (mixture-line (components-of mixture row)) (plans-head mixture) question first count text₀ at workspace₀ text workspace end i
+    Putting (mixture_line (components_of mixture row)) (plans_head mixture) question first count text₀ at workspace₀ text workspace end i
 
 abbrev decreases-loop : tie.decreases-loop
 decreases-loop text₀ at mixture question first count row workspace₀ end₀ i₀ text workspace end i = count - i
@@ -34,7 +34,7 @@ within : (c : tie.After-numbered invariant-loop decreases-loop) → outside c.nu
 within c = rw c.numbered.ensures ((start (at-loop c)).pre.1.within (at-loop c).loop.i (search rules))
 
 loop-holds : tie.Need-loop-init invariant-loop decreases-loop
-loop-holds c = putting-none (search rules)
+loop-holds c = putting_none (search rules)
 
 add-numbered : tie.Need-overflow-add-numbered invariant-loop decreases-loop
 add-numbered c = search rules
@@ -45,8 +45,8 @@ numbered-requires c κs = search rules
 put-question-requires : tie.Need-put-question-requires invariant-loop decreases-loop
 put-question-requires c κs =
     let at = at-loop c.before in (
-      answerable-still (start at).pre.0 at.loop.inv.space,
-      (within c.before, appending-room-each at.loop.inv.lines line-room (λ i. mixture-short _ _) (search rules) (start at).pre.1.room),
+      answerable_still (start at).pre.0 at.loop.inv.space,
+      (within c.before, appending_room_each at.loop.inv.lines line_room (λ i. mixture_short _ _) (search rules) (start at).pre.1.room),
     )
 
 add-i : tie.Need-overflow-add-i invariant-loop decreases-loop
@@ -60,16 +60,16 @@ loop-again c =
     let line = c.before.before.before.before in
     let put = line.put-question in
     let asked = line.before.before in
-    putting-more (at-loop asked).loop.invariant asked.numbered.result asked.numbered.ensures (search rules) put.auto.0 put.ensures.0 put.ensures.1
+    putting_more (at-loop asked).loop.invariant asked.numbered.result asked.numbered.ensures (search rules) put.auto.0 put.ensures.0 put.ensures.1
 
 same_length : tie.Need-same-length invariant-loop decreases-loop
 same_length c = c.before.loop.invariant.lines.long
 
 same-length-2 : tie.Need-same-length-2 invariant-loop decreases-loop
-same-length-2 c = cleared-long (start c.before).pre.0.room c.before.loop.invariant.space
+same-length-2 c = cleared_long (start c.before).pre.0.room c.before.loop.invariant.space
 
 returns : tie.Need-returns invariant-loop decreases-loop
-returns c = putting-done c.before.loop.invariant (search rules)
+returns c = putting_done c.before.loop.invariant (search rules)
 
 pub put-range-spec : {M : Type 1} → statement M
 put-range-spec =

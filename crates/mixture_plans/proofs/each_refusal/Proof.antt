@@ -4,13 +4,13 @@ use Prim.Native.Nat.{◌-◌, ◌≤◌}
 use native.Mathlib.Omega.{arith}
 use lib.ListN.{length}
 use borrow.Author.Rules.{rules}
-use Rattle.model.specs.Limits.{max-plans}
-use Rattle.mixture_plans.proofs.RowLaws.{Checking, checking-start, checking-head, end-inside, checking-refused, checking-more, checking-done}
+use Rattle.model.specs.Limits.{max_plans}
+use Rattle.mixture_plans.proofs.RowLaws.{Checking, checking_start, checking_head, end_inside, checking_refused, checking_more, checking_done}
 use Rattle.mixture_plans.proofs.each_refusal.Statement.{statement}
 use Rattle.mixture_plans.proofs.each_refusal.Tie as tie
 
 abbrev invariant-loop : tie.invariant-loop
-invariant-loop row heads count i₀ start₀ i start = (length heads ≡ max-plans) × ((count ≤ max-plans) × Checking heads row count i start)
+invariant-loop row heads count i₀ start₀ i start = (length heads ≡ max_plans) × ((count ≤ max_plans) × Checking heads row count i start)
 
 abbrev decreases-loop : tie.decreases-loop
 decreases-loop row heads count i₀ start₀ i start = count - i
@@ -38,12 +38,12 @@ inside :
     (l.start ≤ c.row-end.result) × (c.row-end.result ≤ length (of_cut c).before.before.before.args.row.now)
 inside c =
     let l = (of_cut c).loop in
-    end-inside _ _ _ (omega (arith, l.inv)) _ _ l.inv.1.1 _ (head-told (first-checks c)).before.loop-test.taken _ refl _ c.row-end.ensures
+    end_inside _ _ _ (omega (arith, l.inv)) _ _ l.inv.1.1 _ (head-told (first-checks c)).before.loop-test.taken _ refl _ c.row-end.ensures
 
 loop-holds : tie.Need-loop-init invariant-loop decreases-loop
 loop-holds c =
     let known = c.before.before.requires in
-    (known.heads-long, (known.fits, checking-start _ _ _ (omega (arith, known.fits, known.heads-long))))
+    (known.heads_long, (known.fits, checking_start _ _ _ (omega (arith, known.fits, known.heads_long))))
 
 mul-head : tie.Need-overflow-mul-head invariant-loop decreases-loop
 mul-head c = omega (arith, c.before.loop.invariant.1.0, c.loop-test.true)
@@ -59,7 +59,7 @@ returns c =
     let told = c.before in
     let l = at-loop told.before in
     let test = told.before.before.loop-test.true in
-    checking-head _ _ _ (omega (arith, l.loop.inv)) _ _ l.loop.inv.1.1 _ test _ told.head-refusal.ensures c.if1.true
+    checking_head _ _ _ (omega (arith, l.loop.inv)) _ _ l.loop.inv.1.1 _ test _ told.head-refusal.ensures c.if1.true
 
 add-row-end : tie.Need-overflow-add-row-end invariant-loop decreases-loop
 add-row-end c = search rules
@@ -87,7 +87,7 @@ returns-2 c =
     let checked = c.before in
     let at_cut = cut checked in
     let l = (of_cut at_cut).loop in
-    checking-refused _ _ _ (omega (arith, l.inv)) _ _ l.inv.1.1 _ (head-told (first-checks at_cut)).before.loop-test.taken _ refl _ at_cut.row-end.ensures _ checked.plan-refusal.ensures c.if2.true
+    checking_refused _ _ _ (omega (arith, l.inv)) _ _ l.inv.1.1 _ (head-told (first-checks at_cut)).before.loop-test.taken _ refl _ at_cut.row-end.ensures _ checked.plan_refusal.ensures c.if2.true
 
 add-i : tie.Need-overflow-add-i invariant-loop decreases-loop
 add-i c = search rules
@@ -103,14 +103,14 @@ loop-again c =
       l.inv.0,
       (
         l.inv.1.0,
-        checking-more _ _ _ (omega (arith, l.inv)) _ _ l.inv.1.1 _ (head-told (first-checks at_cut)).before.loop-test.taken _ refl _ at_cut.row-end.ensures _ checked.plan-refusal.ensures c.if2.false,
+        checking_more _ _ _ (omega (arith, l.inv)) _ _ l.inv.1.1 _ (head-told (first-checks at_cut)).before.loop-test.taken _ refl _ at_cut.row-end.ensures _ checked.plan_refusal.ensures c.if2.false,
       ),
     )
 
 returns-3 : tie.Need-returns-3 invariant-loop decreases-loop
 returns-3 c =
     let l = c.before in
-    checking-done _ _ _ (omega (arith, l.loop.invariant)) _ _ l.loop.invariant.1.1 c.loop-test.false
+    checking_done _ _ _ (omega (arith, l.loop.invariant)) _ _ l.loop.invariant.1.1 c.loop-test.false
 
 pub each-refusal-spec : {M : Type 1} → statement M
 each-refusal-spec =

@@ -2,9 +2,9 @@
 use mathlib.Core.Path.{◌≡◌, sym, ap, ◌∙◌}
 use mathlib.Core.Bool.{Bool, cond}
 use borrow.Author.Rules.{rules}
-use Rattle.model.specs.Limits.{max-plans}
-use Rattle.mixture_plans.specs.Refusal.{Counted, mixture-refusal}
-use Rattle.mixture_plans.proofs.CheckLaws.{mapped-length, counted, by_count, by-each, by-unlike, by_weights}
+use Rattle.model.specs.Limits.{max_plans}
+use Rattle.mixture_plans.specs.Refusal.{Counted, mixture_refusal}
+use Rattle.mixture_plans.proofs.CheckLaws.{mapped_length, counted, by_count, by_each, by_unlike, by_weights}
 use Rattle.mixture_plans.proofs.mixture_refusal.Statement.{statement}
 use Rattle.mixture_plans.proofs.mixture_refusal.Tie as tie
 
@@ -32,7 +32,7 @@ known : (c : tie.Else1) → Counted (start (count-passed c)).args.mixture
 known c =
     let s = start (count-passed c) in
     let good = s.good.0.1.1.1 in
-    counted _ (sym (count-passed c).count-is-outside.ensures ∙ c.if1.false) (mapped-length _ s.args.mixture.heads max-plans good.0.1.0.1) (mapped-length _ s.args.mixture.weights max-plans good.1.0.1.0.1)
+    counted _ (sym (count-passed c).count-is-outside.ensures ∙ c.if1.false) (mapped_length _ s.args.mixture.heads max_plans good.0.1.0.1) (mapped_length _ s.args.mixture.weights max_plans good.1.0.1.0.1)
 
 count-is-outside-requires : tie.Need-count-is-outside-requires
 count-is-outside-requires c κs = search rules
@@ -47,7 +47,7 @@ returns-2 : tie.Need-returns-2
 returns-2 c =
     let told = c.before in
     let passed = each-told told in
-    by-each _ _ (sym (count-passed passed).count-is-outside.ensures ∙ passed.if1.left) _ told.each-refusal.ensures c.if2.true
+    by_each _ _ (sym (count-passed passed).count-is-outside.ensures ∙ passed.if1.left) _ told.each-refusal.ensures c.if2.true
 
 is-unlike-requires : tie.Need-is-unlike-requires
 is-unlike-requires c κs = (known (of-each c), sym c.before.each-refusal.ensures ∙ c.if2.false)
@@ -57,7 +57,7 @@ returns-3 c =
     let told = c.before in
     let each = unlike-told told in
     let passed = of-each each in
-    by-unlike _ _ (sym (count-passed passed).count-is-outside.ensures ∙ passed.if1.left) (known passed) (sym each.before.each-refusal.ensures ∙ each.if2.left) _
+    by_unlike _ _ (sym (count-passed passed).count-is-outside.ensures ∙ passed.if1.left) (known passed) (sym each.before.each-refusal.ensures ∙ each.if2.left) _
     told.is-unlike.ensures c.if3.true
 
 weights-add-requires : tie.Need-weights-add-requires
@@ -67,13 +67,13 @@ weights-add-requires c κs = known (of-each (of-unlike c))
 summed :
     (c : tie.After-weights-add) →
     let s = start (count-passed (of-each (of-unlike c.before))) in
-    cond c.weights-add.result 0 18 ≡ mixture-refusal s.args.mixture s.args.row.now
+    cond c.weights_add.result 0 18 ≡ mixture_refusal s.args.mixture s.args.row.now
 summed c =
     let alike = c.before in
     let each = of-unlike alike in
     let passed = of-each each in
     by_weights _ _ (sym (count-passed passed).count-is-outside.ensures ∙ passed.if1.left) (known passed) (sym each.before.each-refusal.ensures ∙ each.if2.left) _
-    alike.before.is-unlike.ensures alike.if3.false _ c.weights-add.ensures
+    alike.before.is-unlike.ensures alike.if3.false _ c.weights_add.ensures
 
 returns-4 : tie.Need-returns-4
 returns-4 c = ap (λ (b : Bool). cond b 0 18) (sym c.if4.true) ∙ summed c.before

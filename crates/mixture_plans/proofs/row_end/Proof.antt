@@ -20,7 +20,7 @@ add-result : tie.Need-overflow-add-result
 add-result c = search rules
 
 returns-2 : tie.Need-returns-2
-returns-2 c = rw (c.before.before.if1.false, c.lesser.ensures, c.before.row-length.ensures)
+returns-2 c = rw (c.before.before.if1.false, c.lesser.ensures, c.before.row_length.ensures)
 
 pub row-end-spec : {M : Type 1} → statement M
 row-end-spec =

@@ -4,7 +4,7 @@ use Prim.Native.Nat.{◌+◌, ◌-◌, ◌<◌, ◌≤◌}
 use native.Mathlib.Omega.{arith}
 use lib.ListN.{length}
 use borrow.Author.Rules.{rules}
-use Rattle.mixture_plans.proofs.AlikeLaws.{Comparing, comparing-none, comparing-more, comparing-done, comparing-differs}
+use Rattle.mixture_plans.proofs.AlikeLaws.{Comparing, comparing_none, comparing_more, comparing_done, comparing_differs}
 use Rattle.mixture_plans.proofs.same_numbers.Statement.{statement}
 use Rattle.mixture_plans.proofs.same_numbers.Tie as tie
 
@@ -15,7 +15,7 @@ abbrev decreases-loop : tie.decreases-loop
 decreases-loop row a b count i₀ i = count - i
 
 loop-holds : tie.Need-loop-init invariant-loop decreases-loop
-loop-holds c = (omega arith, comparing-none _ _ _)
+loop-holds c = (omega arith, comparing_none _ _ _)
 
 -- both numbers lie in the row
 inside :
@@ -46,7 +46,7 @@ returns : tie.Need-returns invariant-loop decreases-loop
 returns c =
     let at_test = c.before.before.before in
     let from = at_test.before.before in
-    comparing-differs _ _ _ _ from.requires _ at_test.loop-test.true c.if1.true
+    comparing_differs _ _ _ _ from.requires _ at_test.loop-test.true c.if1.true
 
 add-i : tie.Need-overflow-add-i invariant-loop decreases-loop
 add-i c = search rules
@@ -57,13 +57,13 @@ loop-less c = search rules
 loop-again : tie.Need-loop-preserved invariant-loop decreases-loop
 loop-again c =
     let at_test = c.before.before.before in
-    (omega (arith, at_test.loop-test.true), comparing-more _ _ _ _ at_test.before.loop.invariant.1 c.if1.false)
+    (omega (arith, at_test.loop-test.true), comparing_more _ _ _ _ at_test.before.loop.invariant.1 c.if1.false)
 
 returns-2 : tie.Need-returns-2 invariant-loop decreases-loop
 returns-2 c =
     let l = c.before.loop in
     let all : l.i ≡ c.before.before.args.count = omega (arith, l.invariant.0, c.loop-test.false) in
-    sym (comparing-done _ _ _ _ c.before.before.requires (rw all at l.invariant.1))
+    sym (comparing_done _ _ _ _ c.before.before.requires (rw all at l.invariant.1))
 
 pub same-numbers-spec : {M : Type 1} → statement M
 same-numbers-spec =

@@ -10,15 +10,15 @@ use Rattle.mixture_plans.proofs.weights_add.Statement.{statement}
 use Rattle.mixture_plans.proofs.weights_add.Tie as tie
 
 array-share-prefix-weights : tie.Need-array-share-prefix-weights
-array-share-prefix-weights c = omega (arith, c.before.requires.fits, c.before.requires.weights-long)
+array-share-prefix-weights c = omega (arith, c.before.requires.fits, c.before.requires.weights_long)
 
 slice-aggregate-sum-of : tie.Need-slice-aggregate-sum-of
 slice-aggregate-sum-of c =
     let known = c.before.before.requires in
-    sym (length-take-le _ _ (omega (arith, known.fits, known.weights-long)))
+    sym (length-take-le _ _ (omega (arith, known.fits, known.weights_long)))
 
 sum-of-requires : tie.Need-sum-of-requires
-sum-of-requires c κs = simp length-take (omega (arith, c.before.before.requires.weights-long))
+sum-of-requires c κs = simp length-take (omega (arith, c.before.before.requires.weights_long))
 
 cast-result : tie.Need-overflow-cast-result
 cast-result c = search rules

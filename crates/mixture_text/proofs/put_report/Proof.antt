@@ -2,9 +2,9 @@
 use mathlib.Core.List.{List}
 use mathlib.Core.Path.{sym, ◌∙◌}
 use Prim.Native.Nat.{ℕ}
-use Rattle.report_lines.proofs.AskingLaws.{nothing-cleared}
+use Rattle.report_lines.proofs.AskingLaws.{nothing_cleared}
 use Rattle.mixture_bytes.specs.Reading.{MixtureRead}
-use Rattle.mixture_text.proofs.Laws.{report-accepted, report-refused, needs-accepted, needs-refused}
+use Rattle.mixture_text.proofs.Laws.{report_accepted, report_refused, needs_accepted, needs_refused}
 use borrow.Author.Rules.{rules}
 use Rattle.mixture_text.proofs.put_report.Statement.{statement}
 use Rattle.mixture_text.proofs.put_report.Tie as tie
@@ -30,7 +30,7 @@ returns c =
     let put = c.before.before in
     let refused = put.before.before in
     let number = refused.before.read-mixture.ensures.0 in
-    (rw (report-refused _ (λ z. refused.if1.true (number ∙ z)), ← number) put.Put-refused.ensures, rw (needs-refused _ (λ z. refused.if1.true (number ∙ z))) (nothing-cleared _))
+    (rw (report_refused _ (λ z. refused.if1.true (number ∙ z)), ← number) put.Put-refused.ensures, rw (needs_refused _ (λ z. refused.if1.true (number ∙ z))) (nothing_cleared _))
 
 slice-aggregate-put-accepted : tie.Need-slice-aggregate-put-accepted
 slice-aggregate-put-accepted c = search rules
@@ -42,7 +42,7 @@ accepted c = c.before.before.before.before.before
 put-accepted-requires : tie.Need-put-accepted-requires
 put-accepted-requires c κs =
     let known = read (accepted c) in
-    (record { accepted = known.accepted; heads-long = known.heads-long; weights-long = known.weights-long; room = search rules }, (search rules, known.within))
+    (record { accepted = known.accepted; heads_long = known.heads_long; weights_long = known.weights_long; room = search rules }, (search rules, known.within))
 
 same-length-2 : tie.Need-same-length-2
 same-length-2 c = search rules
@@ -56,7 +56,7 @@ returns-2 c =
     let else1 = accepted put.before in
     let known = read else1 in
     let none = sym else1.before.read-mixture.ensures.0 ∙ else1.if1.left in
-    (rw (report-accepted _ none, ← known.components, ← known.head) put.put-accepted.ensures.0, rw (needs-accepted _ none, ← known.head) put.put-accepted.ensures.1)
+    (rw (report_accepted _ none, ← known.components, ← known.head) put.put-accepted.ensures.0, rw (needs_accepted _ none, ← known.head) put.put-accepted.ensures.1)
 
 pub put-report-spec : {M : Type 1} → statement M
 put-report-spec =

@@ -4,7 +4,7 @@ use native.Mathlib.Omega.{arith}
 use borrow.Author.Rules.{rules}
 use mathlib.Core.Path.{◌≡◌}
 use lib.Dec.{lit<}
-use Rattle.numbers.proofs.Bytes.{Reading, reading-none, reading-more, more-fits-word}
+use Rattle.numbers.proofs.Bytes.{Reading, reading_none, reading_more, more_fits_word}
 use Rattle.numbers.proofs.big_endian.Statement.{statement}
 use Rattle.numbers.proofs.big_endian.Tie as tie
 
@@ -18,10 +18,10 @@ abbrev at-loop : tie.After-index invariant-loop decreases-loop → tie.At-loop i
 at-loop c = c.before.before.before
 
 loop-holds : tie.Need-loop-init invariant-loop decreases-loop
-loop-holds c = (search rules, reading-none _ _)
+loop-holds c = (search rules, reading_none _ _)
 
 mul-x : tie.Need-overflow-mul-x invariant-loop decreases-loop
-mul-x c = omega (arith, more-fits-word _ _ _ _ c.before.loop.invariant.1 0 (lit< tt) (omega arith))
+mul-x c = omega (arith, more_fits_word _ _ _ _ c.before.loop.invariant.1 0 (lit< tt) (omega arith))
 
 add-index : tie.Need-overflow-add-index invariant-loop decreases-loop
 add-index c = search rules
@@ -37,7 +37,7 @@ next : (c : tie.After-index invariant-loop decreases-loop) → c.index.result < 
 next c = omega (arith, c.index.ensures, c.before.shared-slice-known2.given ((at-loop c).before.before.args.at + (at-loop c).loop.k))
 
 add-x : tie.Need-overflow-add-x invariant-loop decreases-loop
-add-x c = omega (arith, more-fits-word _ _ _ _ (at-loop c).loop.invariant.1 _ (next c) (omega arith))
+add-x c = omega (arith, more_fits_word _ _ _ _ (at-loop c).loop.invariant.1 _ (next c) (omega arith))
 
 add-k : tie.Need-overflow-add-k invariant-loop decreases-loop
 add-k c = search rules
@@ -46,7 +46,7 @@ loop-less : tie.Need-loop-smaller invariant-loop decreases-loop
 loop-less c = search rules
 
 loop-again : tie.Need-loop-preserved invariant-loop decreases-loop
-loop-again c = (search rules, reading-more _ _ _ _ (at-loop c).loop.invariant.1 _ c.index.ensures (omega arith) (next c))
+loop-again c = (search rules, reading_more _ _ _ _ (at-loop c).loop.invariant.1 _ c.index.ensures (omega arith) (next c))
 
 returns : tie.Need-returns invariant-loop decreases-loop
 returns c =

@@ -2,8 +2,8 @@
 use mathlib.Core.Path.{refl, ap, ◌∙◌}
 use native.Mathlib.Omega.{arith}
 use borrow.Author.Rules.{rules}
-use Rattle.model.specs.Refusal.{outside, survival-workspace, bounds-refusal}
-use Rattle.opening_search.specs.Refusal.{target-checks}
+use Rattle.model.specs.Refusal.{outside, survival_workspace, bounds_refusal}
+use Rattle.opening_search.specs.Refusal.{target_checks}
 use Rattle.opening_search.proofs.check.Statement.{statement}
 use Rattle.opening_search.proofs.check.Tie as tie
 
@@ -15,12 +15,12 @@ unfolding outside
 bounds-refusal-requires c κs = (omega arith, λ e. refl)
 
 returns : tie.Need-returns
-unfolding bounds-refusal target-checks
+unfolding bounds_refusal target_checks
 returns c =
     let asked = c.before in
     let a = asked.before.before.args in
-    c.bounds-refusal.ensures
-    ∙ ap (λ o. bounds-refusal a.head a.row.now (14, o) (survival-workspace a.head) a.room) asked.target-is-outside.ensures
+    c.bounds_refusal.ensures
+    ∙ ap (λ o. bounds_refusal a.head a.row.now (14, o) (survival_workspace a.head) a.room) asked.target-is-outside.ensures
 
 pub check-spec : {M : Type 1} → statement M
 check-spec = tie.close (tie.spec target-is-outside-requires bounds-refusal-requires returns)

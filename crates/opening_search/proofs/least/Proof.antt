@@ -5,15 +5,15 @@ use native.Mathlib.Omega.{arith}
 use borrow.Author.Rules.{rules}
 use lib.ListN.{length, length-take}
 use lib.Seq.{length-take-le}
-use Rattle.model.specs.Levels.{row-levels}
-use Rattle.model.specs.Refusal.{survival-workspace}
-use Rattle.model.proofs.Facts.{Facts, facts, accepted-head}
+use Rattle.model.specs.Levels.{row_levels}
+use Rattle.model.specs.Refusal.{survival_workspace}
+use Rattle.model.proofs.Facts.{Facts, facts, accepted_head}
 use Rattle.questions.proofs.RefusalLaws.{Asked}
-use Rattle.engine.proofs.AnswerLaws.{terms-lent}
-use Rattle.opening_search.specs.Refusal.{target-outside, target-refusal}
-use Rattle.model.proofs.MemoryLaws.{untouched, cleared-is}
-use Rattle.survival.proofs.Theorems.{needed-is}
-use Rattle.opening_search.proofs.Theorems.{known, refused-is, search_is, lent_is, target-inside, clauses}
+use Rattle.engine.proofs.AnswerLaws.{terms_lent}
+use Rattle.opening_search.specs.Refusal.{target_outside, target_refusal}
+use Rattle.model.proofs.MemoryLaws.{untouched, cleared_is}
+use Rattle.survival.proofs.Theorems.{needed_is}
+use Rattle.opening_search.proofs.Theorems.{known, refused_is, search_is, lent_is, target_inside, clauses}
 use Rattle.opening_search.proofs.least.Statement.{statement}
 use Rattle.opening_search.proofs.least.Tie as tie
 
@@ -39,15 +39,15 @@ returns c =
     let a = (start at-check).args in
     let n = at-check.check in
     clauses a.head a.row.now a.target a.workspace.now a.workspace.now c.refused.result
-    (refused-is a.head a.row.now a.target (length a.workspace.now) n.result c.refused.result c.refused.ensures n.ensures c.before.if1.true)
-    (untouched n.result _ (survival-workspace a.head) a.workspace.now n.ensures c.before.if1.true)
+    (refused_is a.head a.row.now a.target (length a.workspace.now) n.result c.refused.result c.refused.ensures n.ensures c.before.if1.true)
+    (untouched n.result _ (survival_workspace a.head) a.workspace.now n.ensures c.before.if1.true)
 
 -- what is known where no check fits
-none-fits : (c : tie.Else1) → let a = (start c.before).args in target-refusal a.head a.row.now a.target (length a.workspace.now) ≡ 0
-none-fits c = sym c.before.check.ensures ∙ c.if1.false
+none_fits : (c : tie.Else1) → let a = (start c.before).args in target_refusal a.head a.row.now a.target (length a.workspace.now) ≡ 0
+none_fits c = sym c.before.check.ensures ∙ c.if1.false
 
-asked : (c : tie.Else1) → let a = (start c.before).args in Asked a.head a.row.now (target-outside a.target) (survival-workspace a.head) (length a.workspace.now)
-asked c = let a = (start c.before).args in known a.head a.row.now a.target (length a.workspace.now) (none-fits c)
+asked : (c : tie.Else1) → let a = (start c.before).args in Asked a.head a.row.now (target_outside a.target) (survival_workspace a.head) (length a.workspace.now)
+asked c = let a = (start c.before).args in known a.head a.row.now a.target (length a.workspace.now) (none_fits c)
 
 fits : (c : tie.Else1) → let a = (start c.before).args in Facts a.head a.row.now
 fits c = let a = (start c.before).args in facts a.head a.row.now (asked c).accepted
@@ -56,13 +56,13 @@ add-end : tie.Need-overflow-add-end
 add-end c = omega (arith, (fits c.before).row_is)
 
 row-levels-requires : tie.Need-row-levels-requires
-row-levels-requires c κs = accepted-head _ _ (asked c.before).accepted
+row-levels-requires c κs = accepted_head _ _ (asked c.before).accepted
 
 -- the workspace has room for what is needed
-enough : (c : tie.After-row-levels) → 2 * c.row-levels.result ≤ length (start (unrefused c).before).args.workspace.now
+enough : (c : tie.After-row-levels) → 2 * c.row_levels.result ≤ length (start (unrefused c).before).args.workspace.now
 enough c =
     let else1 = unrefused c in
-    omega (arith, (asked else1).enough, needed-is (start else1.before).args.head c.row-levels.result c.row-levels.ensures)
+    omega (arith, (asked else1).enough, needed_is (start else1.before).args.head c.row_levels.result c.row_levels.ensures)
 
 mul-needed : tie.Need-overflow-mul-needed
 mul-needed c = omega (arith, enough c)
@@ -77,7 +77,7 @@ slice-aggregate-search-2 : tie.Need-slice-aggregate-search-2
 slice-aggregate-search-2 c = simp length-take (omega (arith, (fits (unrefused c.before.before)).row_is))
 
 mul-search : tie.Need-overflow-mul-search
-mul-search c = omega (arith, (fits (unrefused c.before.before)).head.months-fit)
+mul-search c = omega (arith, (fits (unrefused c.before.before)).head.months_fit)
 
 sub-search : tie.Need-overflow-sub-search
 sub-search c = search rules
@@ -95,11 +95,11 @@ search-requires c κs =
     let a = (start else1.before).args in
     let months = length-take-le a.head.months a.row.now (omega (arith, (fits else1).row_is)) in (
       (
-        (fits else1).head.income-some,
-        length-take-le (2 * at-levels.row-levels.result) a.workspace.now (enough at-levels)
-            ∙ ap (λ n. 2 * n) (at-levels.row-levels.ensures ∙ ap (λ n. row-levels a.head.income a.head.opening n) (sym months)),
+        (fits else1).head.income_some,
+        length-take-le (2 * at-levels.row_levels.result) a.workspace.now (enough at-levels)
+            ∙ ap (λ n. 2 * n) (at-levels.row_levels.ensures ∙ ap (λ n. row_levels a.head.income a.head.opening n) (sym months)),
       ),
-      (terms-lent a.head a.row.now (fits else1) a.head.months, target-inside a.target (asked else1).inside),
+      (terms_lent a.head a.row.now (fits else1) a.head.months, target_inside a.target (asked else1).inside),
     )
 
 same_length : tie.Need-same-length
@@ -114,9 +114,9 @@ returns-2 c =
     let h = a.head in
     let row = a.row.now in
     clauses h row a.target a.workspace.now _ worked.search.result
-    (lent_is h row a.target worked.search.result worked.search.ensures.0 ∙ search_is h row a.target (length a.workspace.now) (none-fits else1))
-    (cleared-is _ (2 * at-levels.row-levels.result) (survival-workspace h) a.workspace.now worked.search.new.0 (none-fits else1)
-    (needed-is h at-levels.row-levels.result at-levels.row-levels.ensures) (enough at-levels) worked.search.ensures.1)
+    (lent_is h row a.target worked.search.result worked.search.ensures.0 ∙ search_is h row a.target (length a.workspace.now) (none_fits else1))
+    (cleared_is _ (2 * at-levels.row_levels.result) (survival_workspace h) a.workspace.now worked.search.new.0 (none_fits else1)
+    (needed_is h at-levels.row_levels.result at-levels.row_levels.ensures) (enough at-levels) worked.search.ensures.1)
 
 pub least-spec : {M : Type 1} → statement M
 least-spec =

@@ -5,16 +5,16 @@ use native.Mathlib.Omega.{arith}
 use lib.Dec.{ltb}
 use borrow.Author.Tests.{eq-eqb, ne_eqb}
 use Rattle.model.specs.Scale.{S}
-use Rattle.opening_search.specs.Refusal.{target-outside}
+use Rattle.opening_search.specs.Refusal.{target_outside}
 use Rattle.opening_search.proofs.target_is_outside.Statement.{statement}
 use Rattle.opening_search.proofs.target_is_outside.Tie as tie
 
 returns : tie.Need-returns
-unfolding target-outside
+unfolding target_outside
 returns c = rw (eq-eqb c.before.args.target 0 (omega (arith, c.if1.true)))
 
 returns-2 : tie.Need-returns-2
-unfolding target-outside S
+unfolding target_outside S
 returns-2 c =
     let target = c.before.args.target in
     ap (λ (none : Bool). none || ltb S target) (sym (ne_eqb target 0 (λ z. omega (arith, c.if1.false))))

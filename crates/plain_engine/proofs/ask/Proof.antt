@@ -6,7 +6,7 @@ use lib.ListN.{length}
 use lib.Seq.{length-take-le}
 use Rattle.model.specs.declared.Rounding.TheVariants.{Down, Up}
 use Rattle.model.proofs.Facts.{facts}
-use Rattle.plain_engine.proofs.Theorems.{Taken, taken, terms-lent, bound-lent, refused-is, answered-is, clauses}
+use Rattle.plain_engine.proofs.Theorems.{Taken, taken, terms_lent, bound_lent, refused_is, answered_is, clauses}
 use borrow.Author.Rules.{rules}
 use Rattle.plain_engine.proofs.ask.Statement.{statement}
 use Rattle.plain_engine.proofs.ask.Tie as tie
@@ -32,7 +32,7 @@ returns : tie.Need-returns
 returns c =
     let checked = c.before in
     let a = checked.before.before.args in
-    clauses a.ask a.row.now _ (refused-is a.ask a.row.now checked.refusal.result checked.refusal.ensures c.if1.true)
+    clauses a.ask a.row.now _ (refused_is a.ask a.row.now checked.refusal.result checked.refusal.ensures c.if1.true)
 
 add-end : tie.Need-overflow-add-end
 add-end c = omega (arith, within c.before.before)
@@ -43,7 +43,7 @@ slice-aggregate-chances c =
     sym (length-take-le a.ask.head.months a.row.now (omega (arith, within (answered c))))
 
 mul-severity : tie.Need-overflow-mul-severity
-mul-severity c = omega (arith, (known (answered c)).months-few)
+mul-severity c = omega (arith, (known (answered c)).months_few)
 
 sub-severity : tie.Need-overflow-sub-severity
 sub-severity c = search rules
@@ -55,10 +55,10 @@ part-severity-end : tie.Need-slice-bounds-severity-end
 part-severity-end c = omega (arith, within (answered c))
 
 opening-value-requires : tie.Need-opening-value-requires
-opening-value-requires c κs = terms-lent _ _ (known (answered c.before))
+opening-value-requires c κs = terms_lent _ _ (known (answered c.before))
 
 opening-value-requires-2 : tie.Need-opening-value-requires-2
-opening-value-requires-2 c κs = terms-lent _ _ (known (answered c.before.before))
+opening-value-requires-2 c κs = terms_lent _ _ (known (answered c.before.before))
 
 returns-2 : tie.Need-returns-2
 returns-2 c =
@@ -66,8 +66,8 @@ returns-2 c =
     let a = (start else1).args in
     let t = known else1 in
     clauses a.ask a.row.now _
-    (answered-is a.ask a.row.now c.before.opening-value.result c.opening-value2.result (sym else1.before.refusal.ensures ∙ else1.if1.left)
-    (bound-lent Down a.ask a.row.now t _ c.before.opening-value.ensures) (bound-lent Up a.ask a.row.now t _ c.opening-value2.ensures))
+    (answered_is a.ask a.row.now c.before.opening_value.result c.opening-value2.result (sym else1.before.refusal.ensures ∙ else1.if1.left)
+    (bound_lent Down a.ask a.row.now t _ c.before.opening_value.ensures) (bound_lent Up a.ask a.row.now t _ c.opening-value2.ensures))
 
 pub ask-spec : {M : Type 1} → statement M
 ask-spec =

@@ -1,8 +1,8 @@
 -- `refusal` meets its contract, by whether the plan is too large.
 use mathlib.Core.Path.{sym, ap, ◌∙◌}
 use mathlib.Core.Bool.{Bool}
-use Rattle.model.specs.Refusal.{first, asked-checks}
-use Rattle.plain_engine.proofs.Theorems.{large-refused, small-refused}
+use Rattle.model.specs.Refusal.{first, asked_checks}
+use Rattle.plain_engine.proofs.Theorems.{large_refused, small_refused}
 use borrow.Author.Rules.{rules}
 use Rattle.plain_engine.proofs.refusal.Statement.{statement}
 use Rattle.plain_engine.proofs.refusal.Tie as tie
@@ -17,7 +17,7 @@ returns : tie.Need-returns
 returns c =
     let large = c.before.before in
     let a = c.before.before.before.before.before.args in
-    c.asked-refusal.ensures ∙ large-refused a.ask a.row.now (sym large.is-large.ensures ∙ c.before.if1.true)
+    c.asked-refusal.ensures ∙ large_refused a.ask a.row.now (sym large.is-large.ensures ∙ c.before.if1.true)
 
 is-outside-requires : tie.Need-is-outside-requires
 is-outside-requires c κs = search rules
@@ -30,8 +30,8 @@ returns-2 c =
     let outside = c.before in
     let large = outside.before.before in
     let a = large.before.before.before.args in
-    c.asked-refusal2.ensures ∙ ap (λ (b : Bool). first (asked-checks a.ask.head a.row.now (10, b))) outside.is-outside.ensures
-    ∙ small-refused a.ask a.row.now (sym large.is-large.ensures ∙ outside.before.if1.false)
+    c.asked-refusal2.ensures ∙ ap (λ (b : Bool). first (asked_checks a.ask.head a.row.now (10, b))) outside.is-outside.ensures
+    ∙ small_refused a.ask a.row.now (sym large.is-large.ensures ∙ outside.before.if1.false)
 
 pub refusal-spec : {M : Type 1} → statement M
 refusal-spec =

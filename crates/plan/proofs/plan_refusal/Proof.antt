@@ -13,10 +13,10 @@ use lib.Seq.{take_all}
 use Rattle.model.specs.declared.Head.{Head}
 use Rattle.model.specs.Scale.{S}
 use Rattle.model.specs.Sums.{total}
-use Rattle.model.specs.Plan.{row-length}
-use Rattle.model.specs.Refusal.{HeadAccepted, plan-refusal}
-use Rattle.model.proofs.Facts.{HeadFacts, head-facts}
-use Rattle.plan.proofs.Checks.{survivable, by-head, by_length, by-chance, by_weights}
+use Rattle.model.specs.Plan.{row_length}
+use Rattle.model.specs.Refusal.{HeadAccepted, plan_refusal}
+use Rattle.model.proofs.Facts.{HeadFacts, head_facts}
+use Rattle.plan.proofs.Checks.{survivable, by_head, by_length, by_chance, by_weights}
 use Rattle.plan.proofs.plan_refusal.Statement.{statement}
 use Rattle.plan.proofs.plan_refusal.Tie as tie
 
@@ -37,14 +37,14 @@ head-refusal-requires : tie.Need-head-refusal-requires
 head-refusal-requires c κs = search rules
 
 returns : tie.Need-returns
-returns c = sym (by-head _ _ (λ e. c.if1.true (c.before.head-refusal.ensures ∙ e)) ∙ sym c.before.head-refusal.ensures)
+returns c = sym (by_head _ _ (λ e. c.if1.true (c.before.head-refusal.ensures ∙ e)) ∙ sym c.before.head-refusal.ensures)
 
 -- the head is accepted
 head_ok : (c : tie.Else1) → HeadAccepted (head_at c)
 head_ok c = sym (head-checked c).head-refusal.ensures ∙ c.if1.false
 
 limits : (c : tie.Else1) → HeadFacts (head_at c)
-limits c = head-facts _ (head_ok c)
+limits c = head_facts _ (head_ok c)
 
 row-length-requires : tie.Need-row-length-requires
 row-length-requires c κs = head_ok c
@@ -54,7 +54,7 @@ head_passed c = c.before
 
 returns-2 : tie.Need-returns-2
 returns-2 c =
-    sym (by_length _ _ (head_ok (head_passed c.before)) (λ e. c.if2.true (e ∙ sym c.before.row-length.ensures)))
+    sym (by_length _ _ (head_ok (head_passed c.before)) (λ e. c.if2.true (e ∙ sym c.before.row_length.ensures)))
 
 abbrev row-counted : tie.Else2 → tie.After-row-length
 row-counted c = c.before
@@ -64,8 +64,8 @@ abbrev head-2 : tie.Else2 → tie.Else1
 head-2 c = head_passed (row-counted c)
 
 -- the row is as long as the head says
-row_is : (c : tie.Else2) → length (row_at (head-2 c)) ≡ row-length (head_at (head-2 c))
-row_is c = c.if2.false ∙ (row-counted c).row-length.ensures
+row_is : (c : tie.Else2) → length (row_at (head-2 c)) ≡ row_length (head_at (head-2 c))
+row_is c = c.if2.false ∙ (row-counted c).row_length.ensures
 
 some-above-requires : tie.Need-some-above-requires
 some-above-requires c κs = search rules
@@ -78,7 +78,7 @@ unfolding S
 returns-3 c =
     let at_length = length-passed c.before in
     sym
-    (by-chance _ _
+    (by_chance _ _
     (head_ok (head-2 at_length))
     (row_is at_length)
     (sym c.before.some-above.ensures ∙ c.if3.true))
@@ -112,11 +112,11 @@ sum-of-requires c κs =
 cast-if4 : tie.Need-overflow-cast-if4
 cast-if4 c = search rules
 
-abbrev weights-lent : tie.After-sum-of → tie.After-sum-of-arg
-weights-lent c = c.before
+abbrev weights_lent : tie.After-sum-of → tie.After-sum-of-arg
+weights_lent c = c.before
 
 abbrev head-4 : tie.After-sum-of → tie.Else1
-head-4 c = head-3 (chance-passed (weights-lent c))
+head-4 c = head-3 (chance-passed (weights_lent c))
 
 -- the sum is that of the weights and the tail
 summed : (c : tie.After-sum-of) → c.sum_of.result ≡ total (drop (head_at (head-4 c)).months (row_at (head-4 c)))
@@ -125,11 +125,11 @@ summed c = c.sum_of.ensures ∙ ap total (take_all _ _ (le_of_eq (length-drop (h
 -- no number is above S, and the weights and the tail decide
 weighed :
     (c : tie.After-sum-of)
-    → plan-refusal (head_at (head-4 c)) (row_at (head-4 c))
+    → plan_refusal (head_at (head-4 c)) (row_at (head-4 c))
     ≡ cond (not (eqb c.sum_of.result S)) 8 (cond (survivable (head_at (head-4 c)) (row_at (head-4 c))) 9 0)
 unfolding S
 weighed c =
-    let at-chance = chance-passed (weights-lent c) in
+    let at-chance = chance-passed (weights_lent c) in
     by_weights _ _
     (head_ok (head-4 c))
     (row_is (length-passed (row-searched at-chance)))
@@ -163,12 +163,12 @@ abbrev head-5 : tie.After-shared-slice-known2 → tie.Else1
 head-5 c = head-4 (weights-summed (weights-passed c))
 
 -- the weights add up, and the tail decides
-tail-left :
+tail_left :
     (c : tie.After-shared-slice-known2)
-    → plan-refusal (head_at (head-5 c)) (row_at (head-5 c))
+    → plan_refusal (head_at (head-5 c)) (row_at (head-5 c))
     ≡ cond (survivable (head_at (head-5 c)) (row_at (head-5 c))) 9 0
 unfolding S
-tail-left c = rw (weighed (weights-summed (weights-passed c)), eq-eqb _ _ (weights-passed c).if4.false)
+tail_left c = rw (weighed (weights-summed (weights-passed c)), eq-eqb _ _ (weights-passed c).if4.false)
 
 abbrev tail-read : tie.Then5 → tie.After-shared-slice-known2
 tail-read c = c.before
@@ -185,10 +185,10 @@ head-6 c = head-5 (tail-read (tail-found c))
 -- with a tail, the largest level decides
 level-left :
     (c : tie.After-largest-level)
-    → plan-refusal (head_at (head-6 c)) (row_at (head-6 c))
-    ≡ cond (ltb ((head_at (head-6 c)).sizes + 1) c.largest-level.result) 9 0
+    → plan_refusal (head_at (head-6 c)) (row_at (head-6 c))
+    ≡ cond (ltb ((head_at (head-6 c)).sizes + 1) c.largest_level.result) 9 0
 level-left c =
-    rw (tail-left (tail-read (tail-found c)), lt-ltb _ _ (tail-found c).if5.true, ← c.largest-level.ensures)
+    rw (tail_left (tail-read (tail-found c)), lt-ltb _ _ (tail-found c).if5.true, ← c.largest_level.ensures)
 
 returns-5 : tie.Need-returns-5
 returns-5 c = rw (level-left c.before, lt-ltb ((head_at (head-6 c.before)).sizes + 1) _ c.if6.true)
@@ -197,7 +197,7 @@ returns-6 : tie.Need-returns-6
 returns-6 c = rw (level-left c.before, le-ltb ((head_at (head-6 c.before)).sizes + 1) _ c.if6.false)
 
 returns-7 : tie.Need-returns-7
-returns-7 c = rw (tail-left c.before, le-ltb _ _ c.if5.false)
+returns-7 c = rw (tail_left c.before, le-ltb _ _ c.if5.false)
 
 pub plan-refusal-spec : {M : Type 1} → statement M
 plan-refusal-spec =

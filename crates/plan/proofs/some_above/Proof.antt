@@ -6,7 +6,7 @@ use borrow.Author.Tests.{lt-ltb, le-ltb}
 use lib.Dec.{ltb}
 use lib.ListN.{length, drop}
 use Rattle.model.specs.Sums.{any}
-use Rattle.plan.proofs.Rows.{any_next, any-end}
+use Rattle.plan.proofs.Rows.{any_next, any_end}
 use Rattle.plan.proofs.some_above.Statement.{statement}
 use Rattle.plan.proofs.some_above.Tie as tie
 
@@ -39,7 +39,7 @@ loop-again : tie.Need-loop-preserved invariant-loop decreases-loop
 loop-again c = (search rules, rw (← c.before.before.before.loop.invariant.1, any_next _ _ _ c.before.before.loop-test.true, le-ltb _ _ c.if1.false))
 
 returns-2 : tie.Need-returns-2 invariant-loop decreases-loop
-returns-2 c = sym (any-end _ _ _ c.loop-test.false) ∙ c.before.loop.invariant.1
+returns-2 c = sym (any_end _ _ _ c.loop-test.false) ∙ c.before.loop.invariant.1
 
 pub some-above-spec : {M : Type 1} → statement M
 some-above-spec =

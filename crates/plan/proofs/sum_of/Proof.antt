@@ -3,7 +3,7 @@ use Prim.Native.Nat.{◌-◌}
 use borrow.Author.Rules.{rules}
 use native.Mathlib.Omega.{arith}
 use lib.ListN.{length}
-use Rattle.plan.proofs.Rows.{Summing, summing-none, summing-more, summing-done}
+use Rattle.plan.proofs.Rows.{Summing, summing_none, summing_more, summing_done}
 use Rattle.plan.proofs.sum_of.Statement.{statement}
 use Rattle.plan.proofs.sum_of.Tie as tie
 
@@ -14,7 +14,7 @@ abbrev decreases-loop : tie.decreases-loop
 decreases-loop row sum₀ i₀ sum i = length row - i
 
 loop-holds : tie.Need-loop-init invariant-loop decreases-loop
-loop-holds c = summing-none _
+loop-holds c = summing_none _
 
 mul-sum : tie.Need-overflow-mul-sum invariant-loop decreases-loop
 mul-sum c = search rules
@@ -36,10 +36,10 @@ loop-less c = search rules
 
 loop-again : tie.Need-loop-preserved invariant-loop decreases-loop
 loop-again c =
-    summing-more _ _ _ c.before.before.loop.invariant c.before.loop-test.true (c.shared-slice-known.given c.before.before.loop.i).fits
+    summing_more _ _ _ c.before.before.loop.invariant c.before.loop-test.true (c.shared-slice-known.given c.before.before.loop.i).fits
 
 returns : tie.Need-returns invariant-loop decreases-loop
-returns c = summing-done _ _ _ c.before.loop.invariant c.loop-test.false
+returns c = summing_done _ _ _ c.before.loop.invariant c.loop-test.false
 
 pub sum-of-spec : {M : Type 1} → statement M
 sum-of-spec =

@@ -1,6 +1,6 @@
 -- `quote::put_answer` meets its contract: there is room for any line. Assumes nothing.
 use borrow.Author.Rules.{rules}
-use Rattle.quote.proofs.Laws.{answer-shown, answer-refused}
+use Rattle.quote.proofs.Laws.{answer_shown, answer_refused}
 use Rattle.quote.proofs.put_answer.Statement.{statement}
 use Rattle.quote.proofs.put_answer.Tie as tie
 
@@ -29,7 +29,7 @@ same_length c = search rules
 returns : tie.Need-returns
 returns c =
     let put = c.before.before in
-    rw (answer-refused (start (refused put).before).args.answer (refused put).if1.true) put.Put-refused.ensures
+    rw (answer_refused (start (refused put).before).args.answer (refused put).if1.true) put.Put-refused.ensures
 
 slice-aggregate-put-numbered : tie.Need-slice-aggregate-put-numbered
 slice-aggregate-put-numbered c = search rules
@@ -43,7 +43,7 @@ same-length-2 c = search rules
 returns-2 : tie.Need-returns-2
 returns-2 c =
     let put = c.before.before in
-    rw (answer-shown (start (shown put).before).args.answer (shown put).if1.false) put.put-numbered.ensures
+    rw (answer_shown (start (shown put).before).args.answer (shown put).if1.false) put.put-numbered.ensures
 
 pub put-answer-spec : {M : Type 1} → statement M
 put-answer-spec =

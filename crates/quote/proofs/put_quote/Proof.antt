@@ -3,8 +3,8 @@ use mathlib.Core.Path.{◌∙◌}
 use mathlib.Core.List.{List}
 use Prim.Native.Nat.{ℕ}
 use borrow.Author.Rules.{rules}
-use Rattle.codec.proofs.PlanRead.{PlanRead, read_number, plan-read}
-use Rattle.quote.proofs.Laws.{quote-accepted, quote-refused}
+use Rattle.codec.proofs.PlanRead.{PlanRead, read_number, plan_read}
+use Rattle.quote.proofs.Laws.{quote_accepted, quote_refused}
 use Rattle.quote.proofs.put_quote.Statement.{statement}
 use Rattle.quote.proofs.put_quote.Tie as tie
 
@@ -13,7 +13,7 @@ abbrev bytes : tie.After-read-plan → List ℕ
 bytes c = c.before.before.before.args.bytes.now
 
 plan : (c : tie.Else1) → PlanRead (bytes c.before) c.before.read-plan.result
-plan c = plan-read (bytes c.before) c.before.read-plan.ensures c.if1.false
+plan c = plan_read (bytes c.before) c.before.read-plan.ensures c.if1.false
 
 read-plan-requires : tie.Need-read-plan-requires
 read-plan-requires c κs = search rules
@@ -29,7 +29,7 @@ returns c =
     let put = c.before.before in
     let refused = put.before.before in
     let number = read_number (bytes refused.before) refused.before.read-plan.ensures in
-    rw (quote-refused _ _ (λ z. refused.if1.true (number ∙ z)), ← number) put.Put-refused.ensures
+    rw (quote_refused _ _ (λ z. refused.if1.true (number ∙ z)), ← number) put.Put-refused.ensures
 
 slice-aggregate-least-of : tie.Need-slice-aggregate-least-of
 slice-aggregate-least-of c = search rules
@@ -52,7 +52,7 @@ returns-2 c =
     let put = c.before.before in
     let answered = put.before in
     let read = plan (accepted answered.before) in
-    rw (quote-accepted _ _ read.none, ← read.row, ← read.head, ← answered.least-of.ensures) put.put-answer.ensures
+    rw (quote_accepted _ _ read.none, ← read.row, ← read.head, ← answered.least-of.ensures) put.put-answer.ensures
 
 pub put-quote-spec : {M : Type 1} → statement M
 put-quote-spec =

@@ -1,8 +1,8 @@
 -- `report_groups::line_range` meets its contract, by the question's cases. Assumes nothing.
 use native.Mathlib.Omega.{arith}
 use borrow.Author.Rules.{rules}
-use Rattle.model.proofs.Facts.{head-facts}
-use Rattle.report_groups.specs.Groups.{line-range}
+use Rattle.model.proofs.Facts.{head_facts}
+use Rattle.report_groups.specs.Groups.{line_range}
 use Rattle.report_groups.proofs.line_range.Statement.{statement}
 use Rattle.report_groups.proofs.line_range.Tie as tie
 
@@ -22,28 +22,28 @@ enum-told-3 : tie.Need-enum-told-3
 enum-told-3 c = search rules
 
 largest-level-requires : tie.Need-largest-level-requires
-largest-level-requires c κs = omega (arith, (head-facts _ c.before.before.requires).span_fits)
+largest-level-requires c κs = omega (arith, (head_facts _ c.before.before.requires).span_fits)
 
 enum-told-4 : tie.Need-enum-told-4
 enum-told-4 c = search rules
 
 add-t7 : tie.Need-overflow-add-t7
-add-t7 c = omega (arith, head-facts _ c.before.before.before.requires)
+add-t7 c = omega (arith, head_facts _ c.before.before.before.requires)
 
 returns : tie.Need-returns
-unfolding line-range
+unfolding line_range
 returns c = rw c.enum_told.given.1
 
 returns-2 : tie.Need-returns-2
-unfolding line-range
+unfolding line_range
 returns-2 c = rw (c.before.enum-told2.given.1, c.lesser.ensures)
 
 returns-3 : tie.Need-returns-3
-unfolding line-range
-returns-3 c = rw (c.before.enum-told3.given.1, c.largest-level.ensures)
+unfolding line_range
+returns-3 c = rw (c.before.enum-told3.given.1, c.largest_level.ensures)
 
 returns-4 : tie.Need-returns-4
-unfolding line-range
+unfolding line_range
 returns-4 c = rw c.before.enum-told4.given.1
 
 pub line-range-spec : {M : Type 1} → statement M

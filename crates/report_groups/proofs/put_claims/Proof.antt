@@ -2,15 +2,15 @@
 use Prim.Native.Nat.{◌+◌, ◌-◌}
 use native.Mathlib.Omega.{arith}
 use borrow.Author.Rules.{rules}
-use Rattle.text.proofs.TextLaws.{Appending, appending-start, appending-room-each, appending-turn, appending-done}
-use Rattle.report_groups.specs.Groups.{claims-at}
-use Rattle.report_lines.specs.Lines.{line-room}
-use Rattle.report_groups.proofs.GroupLaws.{claims-short}
+use Rattle.text.proofs.TextLaws.{Appending, appending_start, appending_room_each, appending_turn, appending_done}
+use Rattle.report_groups.specs.Groups.{claims_at}
+use Rattle.report_lines.specs.Lines.{line_room}
+use Rattle.report_groups.proofs.GroupLaws.{claims_short}
 use Rattle.report_groups.proofs.put_claims.Statement.{statement}
 use Rattle.report_groups.proofs.put_claims.Tie as tie
 
 abbrev invariant-loop : tie.invariant-loop
-invariant-loop text₀ at months lower upper end₀ k₀ word text end k = Appending (claims-at lower upper) (months + 1) text₀ at text end k
+invariant-loop text₀ at months lower upper end₀ k₀ word text end k = Appending (claims_at lower upper) (months + 1) text₀ at text end k
 
 abbrev decreases-loop : tie.decreases-loop
 decreases-loop text₀ at months lower upper end₀ k₀ word text end k = months + 1 - k
@@ -23,7 +23,7 @@ abbrev lower : tie.After-wide2 invariant-loop decreases-loop → tie.After-wide 
 lower c = c.before.before
 
 loop-holds : tie.Need-loop-init invariant-loop decreases-loop
-loop-holds c = appending-start (search rules)
+loop-holds c = appending_start (search rules)
 
 slice-aggregate-put-numbered : tie.Need-slice-aggregate-put-numbered invariant-loop decreases-loop
 slice-aggregate-put-numbered c = search rules
@@ -48,7 +48,7 @@ wide-requires-2 c κs = search rules
 
 put-numbered-requires : tie.Need-put-numbered-requires invariant-loop decreases-loop
 put-numbered-requires c κs =
-    omega (arith, appending-room-each (at-loop (lower c)).loop.inv line-room (λ k. claims-short k _ _) (search rules) (search rules))
+    omega (arith, appending_room_each (at-loop (lower c)).loop.inv line_room (λ k. claims_short k _ _) (search rules) (search rules))
 
 add-k : tie.Need-overflow-add-k invariant-loop decreases-loop
 add-k c = search rules
@@ -61,14 +61,14 @@ loop-again c =
     let line = c.before.before in
     let put = line.put-numbered in
     let upper = line.before in
-    appending-turn (at-loop (lower upper)).loop.inv (search rules) put.auto.0
+    appending_turn (at-loop (lower upper)).loop.inv (search rules) put.auto.0
     (rw (← (lower upper).wide.ensures, ← upper.wide2.ensures) put.ensures)
 
 same_length : tie.Need-same-length invariant-loop decreases-loop
 same_length c = search rules
 
 returns : tie.Need-returns invariant-loop decreases-loop
-returns c = appending-done c.before.loop.invariant (search rules)
+returns c = appending_done c.before.loop.invariant (search rules)
 
 pub put-claims-spec : {M : Type 1} → statement M
 put-claims-spec =

@@ -3,8 +3,8 @@ use native.Mathlib.Omega.{arith}
 use borrow.Author.Rules.{rules}
 use Prim.Native.Nat.{◌<◌}
 use Rattle.model.specs.Limits.{places}
-use Rattle.model.proofs.Facts.{head-facts, accepted-head}
-use Rattle.report_groups.proofs.GroupLaws.{claims-are}
+use Rattle.model.proofs.Facts.{head_facts, accepted_head}
+use Rattle.report_groups.proofs.GroupLaws.{claims_are}
 use Rattle.report_groups.proofs.put_counts.Statement.{statement}
 use Rattle.report_groups.proofs.put_counts.Tie as tie
 
@@ -16,8 +16,8 @@ abbrev counts : tie.After-upper2 → tie.After-count-row-of
 counts c = c.before.before.before.before.before
 
 -- the count row has a place for each number of claims
-months-fit : (c : tie.After-count-row-of) → (start c).args.head.months < places
-months-fit c = omega (arith, (head-facts _ (accepted-head _ _ (start c).requires.0)).months-fit)
+months_fit : (c : tie.After-count-row-of) → (start c).args.head.months < places
+months_fit c = omega (arith, (head_facts _ (accepted_head _ _ (start c).requires.0)).months_fit)
 
 count-row-of-requires : tie.Need-count-row-of-requires
 count-row-of-requires c κs = search rules
@@ -31,8 +31,8 @@ slice-aggregate-put-claims-2 c = search rules
 put-claims-requires : tie.Need-put-claims-requires
 put-claims-requires c κs =
     let rows = (counts c).count-row-of.ensures in
-    let fit = months-fit (counts c) in
-    ((omega (arith, rows.lowers-long), omega (arith, rows.uppers-long)), search rules)
+    let fit = months_fit (counts c) in
+    ((omega (arith, rows.lowers_long), omega (arith, rows.uppers_long)), search rules)
 
 same_length : tie.Need-same-length
 same_length c = search rules
@@ -41,7 +41,7 @@ returns : tie.Need-returns
 returns c =
     let put = c.before.before in
     let row = counts put.before in
-    rw (← claims-are _ (months-fit row) row.count-row-of.ensures) put.put-claims.ensures
+    rw (← claims_are _ (months_fit row) row.count-row-of.ensures) put.put-claims.ensures
 
 pub put-counts-spec : {M : Type 1} → statement M
 put-counts-spec =

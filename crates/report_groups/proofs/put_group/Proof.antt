@@ -1,8 +1,8 @@
 -- `report_groups::put_group` meets its contract: a question's numbers are within the limits, and its lines within the room. Assumes nothing.
 use borrow.Author.Rules.{rules}
 use Rattle.model.specs.Refusal.{HeadAccepted}
-use Rattle.model.proofs.Facts.{head-facts, accepted-head}
-use Rattle.report_groups.proofs.GroupLaws.{range-fits}
+use Rattle.model.proofs.Facts.{head_facts, accepted_head}
+use Rattle.report_groups.proofs.GroupLaws.{range_fits}
 use Rattle.report_groups.proofs.put_group.Statement.{statement}
 use Rattle.report_groups.proofs.put_group.Tie as tie
 
@@ -14,7 +14,7 @@ abbrev range : tie.After-put-range-arg2 → tie.After-line-range
 range c = c.before.before
 
 head_ok : (s : tie.Start) → HeadAccepted s.args.head
-head_ok s = accepted-head _ _ s.requires.0.accepted
+head_ok s = accepted_head _ _ s.requires.0.accepted
 
 line-range-requires : tie.Need-line-range-requires
 line-range-requires c κs = head_ok (start c)
@@ -22,7 +22,7 @@ line-range-requires c κs = head_ok (start c)
 put-range-requires : tie.Need-put-range-requires
 put-range-requires c κs =
     let s = start (range c).before in
-    (s.pre.0, rw (range c).line-range.ensures (range-fits _ _ (head-facts _ (head_ok s)) (search rules) s.pre.1))
+    (s.pre.0, rw (range c).line_range.ensures (range_fits _ _ (head_facts _ (head_ok s)) (search rules) s.pre.1))
 
 same_length : tie.Need-same-length
 same_length c = search rules
@@ -33,7 +33,7 @@ same-length-2 c = search rules
 returns : tie.Need-returns
 returns c =
     let put = c.before.before.before.before in
-    (rw (← (range put.before).line-range.ensures) put.put-range.ensures.0, rw (← (range put.before).line-range.ensures) put.put-range.ensures.1)
+    (rw (← (range put.before).line_range.ensures) put.put-range.ensures.0, rw (← (range put.before).line_range.ensures) put.put-range.ensures.1)
 
 pub put-group-spec : {M : Type 1} → statement M
 put-group-spec =

@@ -6,14 +6,14 @@ use native.Mathlib.Omega.{arith}
 use borrow.Author.Rules.{rules}
 use lib.ListN.{length}
 use Rattle.model.specs.declared.Question.TheVariants.{Survive, Both, High, Low}
-use Rattle.model.specs.Limits.{max-months}
-use Rattle.model.proofs.Facts.{HeadFacts, head-facts, accepted-head}
-use Rattle.text.proofs.TextLaws.{appended-more}
+use Rattle.model.specs.Limits.{max_months}
+use Rattle.model.proofs.Facts.{HeadFacts, head_facts, accepted_head}
+use Rattle.text.proofs.TextLaws.{appended_more}
 use Rattle.report_lines.proofs.AskingLaws.{cleared_more}
-use Rattle.report_groups.specs.Groups.{most-lines}
-use Rattle.report_lines.proofs.LineLaws.{question-short, head-ends}
-use Rattle.report_groups.proofs.GroupLaws.{claims-end, Leaves, group-leaves}
-use Rattle.report_text.specs.Report.{plan-report}
+use Rattle.report_groups.specs.Groups.{most_lines}
+use Rattle.report_lines.proofs.LineLaws.{question_short, head_ends}
+use Rattle.report_groups.proofs.GroupLaws.{claims_end, Leaves, group_leaves}
+use Rattle.report_text.specs.Report.{plan_report}
 use Rattle.report_text.proofs.put_plan.Statement.{statement}
 use Rattle.report_text.proofs.put_plan.Tie as tie
 
@@ -62,45 +62,45 @@ abbrev of_low : tie.After-put-group4 → tie.Start
 of_low c = of-high (high c.before)
 
 known : (s : tie.Start) → HeadFacts s.args.head
-known s = head-facts _ (accepted-head _ _ s.requires.0.accepted)
+known s = head_facts _ (accepted_head _ _ s.requires.0.accepted)
 
 -- the room that each call leaves
 abbrev LeavesOf : tie.Start → List ℕ → ℕ → ℕ → Type 0
 LeavesOf s text end lines = Leaves s.args.text.now text end lines
 
-after-head :
+after_head :
     (c : tie.After-put-head)
     → LeavesOf (of-head c) c.put-head.new.0 c.put-head.result
-    (most-lines Survive + (max-months + 1) + most-lines (Both 0) + most-lines (High 0) + most-lines (Low 0) + (max-months + 1))
-after-head c = record { long = c.put-head.auto.0; room = omega (arith, head-ends _ c.put-head.ensures) }
+    (most_lines Survive + (max_months + 1) + most_lines (Both 0) + most_lines (High 0) + most_lines (Low 0) + (max_months + 1))
+after_head c = record { long = c.put-head.auto.0; room = omega (arith, head_ends _ c.put-head.ensures) }
 
 after-survive :
     (c : tie.After-put-group)
     → LeavesOf (of-survive c) c.put-group.new.0 c.put-group.result
-    ((max-months + 1) + most-lines (Both 0) + most-lines (High 0) + most-lines (Low 0) + (max-months + 1))
+    ((max_months + 1) + most_lines (Both 0) + most_lines (High 0) + most_lines (Low 0) + (max_months + 1))
 after-survive c =
-    group-leaves _ _ Survive _ (question-short _) (known (of-survive c)) (after-head (head c.before)) (omega arith) c.put-group.auto.0 c.put-group.ensures.0
+    group_leaves _ _ Survive _ (question_short _) (known (of-survive c)) (after_head (head c.before)) (omega arith) c.put-group.auto.0 c.put-group.ensures.0
 
 after-claims :
     (c : tie.After-put-counts)
-    → LeavesOf (of-claims c) c.put-counts.new.0 c.put-counts.result (most-lines (Both 0) + most-lines (High 0) + most-lines (Low 0) + (max-months + 1))
+    → LeavesOf (of-claims c) c.put-counts.new.0 c.put-counts.result (most_lines (Both 0) + most_lines (High 0) + most_lines (Low 0) + (max_months + 1))
 after-claims c =
     let left = after-survive (survive c.before) in
-    record { long = c.put-counts.auto.0 ∙ left.long; room = omega (arith, left.room, claims-end _ _ c.put-counts.ensures, (known (of-claims c)).months-fit) }
+    record { long = c.put-counts.auto.0 ∙ left.long; room = omega (arith, left.room, claims_end _ _ c.put-counts.ensures, (known (of-claims c)).months_fit) }
 
 after_both :
     (c : tie.After-put-group2)
-    → LeavesOf (of-both c) c.put-group2.new.0 c.put-group2.result (most-lines (High 0) + most-lines (Low 0) + (max-months + 1))
+    → LeavesOf (of-both c) c.put-group2.new.0 c.put-group2.result (most_lines (High 0) + most_lines (Low 0) + (max_months + 1))
 after_both c =
-    group-leaves _ _ (Both 0) _ (question-short _) (known (of-both c)) (after-claims (claims c.before)) (omega arith) c.put-group2.auto.0 c.put-group2.ensures.0
+    group_leaves _ _ (Both 0) _ (question_short _) (known (of-both c)) (after-claims (claims c.before)) (omega arith) c.put-group2.auto.0 c.put-group2.ensures.0
 
-after-high : (c : tie.After-put-group3) → LeavesOf (of-high c) c.put-group3.new.0 c.put-group3.result (most-lines (Low 0) + (max-months + 1))
+after-high : (c : tie.After-put-group3) → LeavesOf (of-high c) c.put-group3.new.0 c.put-group3.result (most_lines (Low 0) + (max_months + 1))
 after-high c =
-    group-leaves _ _ (High 0) _ (question-short _) (known (of-high c)) (after_both (both c.before)) (omega arith) c.put-group3.auto.0 c.put-group3.ensures.0
+    group_leaves _ _ (High 0) _ (question_short _) (known (of-high c)) (after_both (both c.before)) (omega arith) c.put-group3.auto.0 c.put-group3.ensures.0
 
-after-low : (c : tie.After-put-group4) → LeavesOf (of_low c) c.put-group4.new.0 c.put-group4.result (max-months + 1)
+after-low : (c : tie.After-put-group4) → LeavesOf (of_low c) c.put-group4.new.0 c.put-group4.result (max_months + 1)
 after-low c =
-    group-leaves _ _ (Low 0) _ (question-short _) (known (of_low c)) (after-high (high c.before)) (omega arith) c.put-group4.auto.0 c.put-group4.ensures.0
+    group_leaves _ _ (Low 0) _ (question_short _) (known (of_low c)) (after-high (high c.before)) (omega arith) c.put-group4.auto.0 c.put-group4.ensures.0
 
 -- and the workspace is as long as it was, after the calls that it is lent to
 workspace-long : (c : tie.After-put-group3) → length c.put-group3.new.1.1.1.1.1.0 ≡ length (of-high c).args.workspace.now
@@ -113,12 +113,12 @@ put-head-requires : tie.Need-put-head-requires
 put-head-requires c κs = search rules
 
 put-group-requires : tie.Need-put-group-requires
-put-group-requires c κs = ((of-head (head c)).requires.0, omega (arith, (after-head (head c)).long, (after-head (head c)).room))
+put-group-requires c κs = ((of-head (head c)).requires.0, omega (arith, (after_head (head c)).long, (after_head (head c)).room))
 
 put-counts-requires : tie.Need-put-counts-requires
 put-counts-requires c κs =
     let s = of-survive (survive c) in
-    (s.pre.0.accepted, omega (arith, (after-survive (survive c)).long, (after-survive (survive c)).room, (known s).months-fit))
+    (s.pre.0.accepted, omega (arith, (after-survive (survive c)).long, (after-survive (survive c)).room, (known s).months_fit))
 
 put-group-requires-2 : tie.Need-put-group-requires-2
 put-group-requires-2 c κs = (search rules, omega (arith, (after-claims (claims c)).long, (after-claims (claims c)).room))
@@ -136,7 +136,7 @@ put-ruins-requires : tie.Need-put-ruins-requires
 put-ruins-requires c κs =
     let s = of_low (low c) in (
       record { accepted = s.pre.0.accepted; room = omega (arith, s.pre.0.room, workspace-long (high (low c).before), (low c).put-group4.auto) },
-      omega (arith, (after-low (low c)).long, (after-low (low c)).room, (known s).months-fit),
+      omega (arith, (after-low (low c)).long, (after-low (low c)).room, (known s).months_fit),
     )
 
 same_length : tie.Need-same-length
@@ -148,7 +148,7 @@ same-length-2 c =
     omega (arith, workspace-long (high at_low.before), at_low.put-group4.kept, (ruins c).put-ruins.auto)
 
 returns : tie.Need-returns
-unfolding plan-report
+unfolding plan_report
 returns c =
     let at_low = low (ruins c).before in
     let at_high = high at_low.before in
@@ -156,11 +156,11 @@ returns c =
     let at-claims = claims at_both.before in
     let at-survive = survive at-claims.before in
     let at_head = head at-survive.before in (
-      appended-more
-          (appended-more
-          (appended-more
-          (appended-more
-          (appended-more (appended-more at_head.put-head.ensures at-survive.put-group.ensures.0) at-claims.put-counts.ensures)
+      appended_more
+          (appended_more
+          (appended_more
+          (appended_more
+          (appended_more (appended_more at_head.put-head.ensures at-survive.put-group.ensures.0) at-claims.put-counts.ensures)
           at_both.put-group2.ensures.0)
           at_high.put-group3.ensures.0)
           at_low.put-group4.ensures.0)

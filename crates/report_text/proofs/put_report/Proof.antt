@@ -3,9 +3,9 @@ use mathlib.Core.Path.{◌∙◌}
 use mathlib.Core.List.{List}
 use Prim.Native.Nat.{ℕ}
 use borrow.Author.Rules.{rules}
-use Rattle.codec.proofs.PlanRead.{PlanRead, read_number, plan-read}
-use Rattle.report_lines.proofs.AskingLaws.{nothing-cleared}
-use Rattle.report_text.proofs.Laws.{report-accepted, report-refused, needs-accepted, needs-refused}
+use Rattle.codec.proofs.PlanRead.{PlanRead, read_number, plan_read}
+use Rattle.report_lines.proofs.AskingLaws.{nothing_cleared}
+use Rattle.report_text.proofs.Laws.{report_accepted, report_refused, needs_accepted, needs_refused}
 use Rattle.report_text.proofs.put_report.Statement.{statement}
 use Rattle.report_text.proofs.put_report.Tie as tie
 
@@ -14,7 +14,7 @@ abbrev bytes : tie.After-read-plan → List ℕ
 bytes c = c.before.before.before.before.args.bytes.now
 
 plan : (c : tie.Else1) → PlanRead (bytes c.before) c.before.read-plan.result
-plan c = plan-read (bytes c.before) c.before.read-plan.ensures c.if1.false
+plan c = plan_read (bytes c.before) c.before.read-plan.ensures c.if1.false
 
 read-plan-requires : tie.Need-read-plan-requires
 read-plan-requires c κs = search rules
@@ -30,7 +30,7 @@ returns c =
     let put = c.before.before in
     let refused = put.before.before in
     let number = read_number (bytes refused.before) refused.before.read-plan.ensures in
-    (rw (report-refused _ (λ z. refused.if1.true (number ∙ z)), ← number) put.Put-refused.ensures, rw (needs-refused _ (λ z. refused.if1.true (number ∙ z))) (nothing-cleared _))
+    (rw (report_refused _ (λ z. refused.if1.true (number ∙ z)), ← number) put.Put-refused.ensures, rw (needs_refused _ (λ z. refused.if1.true (number ∙ z))) (nothing_cleared _))
 
 slice-aggregate-put-accepted : tie.Need-slice-aggregate-put-accepted
 slice-aggregate-put-accepted c = search rules
@@ -54,8 +54,8 @@ returns-2 : tie.Need-returns-2
 returns-2 c =
     let put = c.before.before.before.before in
     let read = plan (accepted put.before) in (
-      rw (report-accepted _ read.none, ← read.row, ← read.head) put.put-accepted.ensures.0,
-      rw (needs-accepted _ read.none, ← read.head) put.put-accepted.ensures.1,
+      rw (report_accepted _ read.none, ← read.row, ← read.head) put.put-accepted.ensures.0,
+      rw (needs_accepted _ read.none, ← read.head) put.put-accepted.ensures.1,
     )
 
 pub put-report-spec : {M : Type 1} → statement M

@@ -3,12 +3,12 @@ use Prim.Native.Nat.{◌+◌, ◌*◌, ◌-◌, ◌≤◌}
 use mathlib.Core.Path.{refl}
 use native.Mathlib.Omega.{arith}
 use Rattle.model.specs.Scale.{S}
-use Rattle.model.proofs.Month.{mixture-le}
+use Rattle.model.proofs.Month.{mixture_le}
 use Rattle.rounding.proofs.weighted_sum.Statement.{statement}
 use Rattle.rounding.proofs.weighted_sum.Tie as tie
 
 fits : (c : tie.Start) → (S - c.args.chance) * c.args.otherwise + c.args.chance * c.args.then ≤ S * S
-fits c = mixture-le c.args.chance c.args.otherwise c.args.then S c.requires.0 c.requires.1 c.requires.2
+fits c = mixture_le c.args.chance c.args.otherwise c.args.then S c.requires.0 c.requires.1 c.requires.2
 
 sub-result : tie.Need-overflow-sub-result
 unfolding S

@@ -6,8 +6,8 @@ use native.Mathlib.Omega.{arith}
 use borrow.Rule.Slice.PartMut.{mid_of}
 use lib.ListN.{length, take, drop, replicate, length-take, length-replicate}
 use Rattle.claims.specs.Values.{Parts}
-use Rattle.month_rule.proofs.HalfLaws.{second-lent, first-half, second-half, parts-both, parts-replicate}
-use Rattle.ruin_rows.proofs.RuinLaws.{zeros-first, zeros-second}
+use Rattle.month_rule.proofs.HalfLaws.{second_lent, first_half, second_half, parts_both, parts_replicate}
+use Rattle.ruin_rows.proofs.RuinLaws.{zeros_first, zeros_second}
 use borrow.Author.Rules.{rules}
 use Rattle.ruin_rows.proofs.ruin_halves.Statement.{statement}
 use Rattle.ruin_rows.proofs.ruin_halves.Tie as tie
@@ -43,14 +43,14 @@ whole : (c : tie.After-fill) → length c.fill.new.0 ≡ 2 * (of-fill c).args.ha
 whole c = c.fill.auto.0 ∙ (of-fill c).requires.0.0
 
 first-zeros : (c : tie.After-fill) → take (of-fill c).args.half c.fill.new.0 ≡ replicate (of-fill c).args.half 0
-first-zeros c = zeros-first c.fill.new.0 _ (of-fill c).args.half c.fill.ensures (of-fill c).requires.0.0
+first-zeros c = zeros_first c.fill.new.0 _ (of-fill c).args.half c.fill.ensures (of-fill c).requires.0.0
 
 second-zeros : (c : tie.After-fill) → drop (of-fill c).args.half c.fill.new.0 ≡ replicate (of-fill c).args.half 0
-second-zeros c = zeros-second c.fill.new.0 _ (of-fill c).args.half c.fill.ensures (of-fill c).requires.0.0
+second-zeros c = zeros_second c.fill.new.0 _ (of-fill c).args.half c.fill.ensures (of-fill c).requires.0.0
 
 -- what a row needs of a half that is all 0
 needed : (s : tie.Start) (part : List ℕ) → part ≡ replicate s.args.half 0 → (s.args.top < length part) × Parts part × (s.args.top + s.args.income < 2 ^ 64)
-needed s part e = rw e (rw length-replicate s.requires.0.1, parts-replicate s.args.half 0 zero-le, s.requires.0.2)
+needed s part e = rw e (rw length-replicate s.requires.0.1, parts_replicate s.args.half 0 zero-le, s.requires.0.2)
 
 ruin-row-requires : tie.Need-ruin-row-requires
 ruin-row-requires c κs =
@@ -62,10 +62,10 @@ ruin-row-requires c κs =
 second :
     (c : tie.After-ruin-row) →
     let half = (of-fill (of-lower c)).args.half in
-    let halves = c.ruin-row.new.0 ++ drop half (of-lower c).fill.new.0 in
+    let halves = c.ruin_row.new.0 ++ drop half (of-lower c).fill.new.0 in
     mid_of half (length halves - half) halves ≡ drop half (of-lower c).fill.new.0
 second c =
-    second-lent (of-lower c).fill.new.0 c.ruin-row.new.0 c.ruin-row.new.0 (of-fill (of-lower c)).args.half (whole (of-lower c)) c.ruin-row.auto.0
+    second_lent (of-lower c).fill.new.0 c.ruin_row.new.0 c.ruin_row.new.0 (of-fill (of-lower c)).args.half (whole (of-lower c)) c.ruin_row.auto.0
 
 mul-ruin-row : tie.Need-overflow-mul-ruin-row
 mul-ruin-row c = search rules
@@ -93,15 +93,15 @@ returns c =
     let at-upper = c.before.before in
     let last = at-upper.ruin-row2 in
     let at-lower = lower at-upper.before in
-    let first = at-lower.ruin-row in
+    let first = at-lower.ruin_row in
     let at_fill_lem = of-lower at-lower in
     let xs = at_fill_lem.fill.last.0 in
     let half = (of-fill at_fill_lem).args.half in (
-      rw (first-half xs first.last.0 last.new.0 half (whole at_fill_lem) first.kept.0) (rw (first-zeros at_fill_lem) at first.ensures.0),
+      rw (first_half xs first.last.0 last.new.0 half (whole at_fill_lem) first.kept.0) (rw (first-zeros at_fill_lem) at first.ensures.0),
       (
-        rw (second-half xs first.last.0 last.new.0 half (whole at_fill_lem) first.kept.0)
+        rw (second_half xs first.last.0 last.new.0 half (whole at_fill_lem) first.kept.0)
             (rw (second at-lower, second-zeros at_fill_lem) at last.ensures.0),
-        parts-both xs first.last.0 last.new.0 half (whole at_fill_lem) first.kept.0 first.ensures.1 last.ensures.1,
+        parts_both xs first.last.0 last.new.0 half (whole at_fill_lem) first.kept.0 first.ensures.1 last.ensures.1,
       ),
     )
 

@@ -5,13 +5,13 @@ use mathlib.Core.Path.{◌≡◌}
 use Prim.Native.Nat.{◌+◌, ◌*◌, ◌-◌, ◌≤◌}
 use native.Mathlib.Nat.{zero-add}
 use Rattle.model.specs.Scale.{S}
-use Rattle.month_rows.proofs.RowLaws.{Rewriting, rewriting-start, rewriting-turn}
-use Rattle.ruin_rows.proofs.RuinLaws.{ruin-places, product-fits, ruin-value, value-fits}
+use Rattle.month_rows.proofs.RowLaws.{Rewriting, rewriting_start, rewriting_turn}
+use Rattle.ruin_rows.proofs.RuinLaws.{ruin_places, product_fits, ruin_value, value_fits}
 use Rattle.ruin_rows.proofs.ruin_row.Statement.{statement}
 use Rattle.ruin_rows.proofs.ruin_row.Tie as tie
 
 abbrev invariant-loop : tie.invariant-loop
-invariant-loop row₀ top income severity tail chance round i₀ row i = (i ≤ top + 1) × Rewriting row₀ 0 (ruin-places round income severity tail chance top) row i
+invariant-loop row₀ top income severity tail chance round i₀ row i = (i ≤ top + 1) × Rewriting row₀ 0 (ruin_places round income severity tail chance top) row i
 
 abbrev decreases-loop : tie.decreases-loop
 decreases-loop row₀ top income severity tail chance round i₀ row i = top + 1 - i
@@ -19,7 +19,7 @@ decreases-loop row₀ top income severity tail chance round i₀ row i = top + 1
 loop-holds : tie.Need-loop-init invariant-loop decreases-loop
 loop-holds c =
     let start = c.before.before in
-    (omega arith, rewriting-start start.args.row.now 0 _ start.requires.0.1)
+    (omega arith, rewriting_start start.args.row.now 0 _ start.requires.0.1)
 
 -- the places of the loop and of the call in it, each from the next
 abbrev start : tie.At-loop invariant-loop decreases-loop → tie.Start invariant-loop decreases-loop
@@ -35,17 +35,17 @@ add-ruin-weight : tie.Need-overflow-add-ruin-weight invariant-loop decreases-loo
 add-ruin-weight c = search rules
 
 ruin-weight-requires : tie.Need-ruin-weight-requires invariant-loop decreases-loop
-ruin-weight-requires c κs = (start c.before).pre.1.weights-fit
+ruin-weight-requires c κs = (start c.before).pre.1.weights_fit
 
 wide-requires : tie.Need-wide-requires invariant-loop decreases-loop
 wide-requires c κs = search rules
 
 -- the product that a turn divides
-fits : (c : tie.After-wide invariant-loop decreases-loop) → c.wide.result * c.before.ruin-weight.result ≤ S * S
+fits : (c : tie.After-wide invariant-loop decreases-loop) → c.wide.result * c.before.ruin_weight.result ≤ S * S
 fits c =
     let from = start (at-loop c.before) in
     rw c.wide.ensures
-    (product-fits from.args.severity.now from.args.tail from.args.chance _ c.before.ruin-weight.result from.pre.1 c.before.ruin-weight.ensures)
+    (product_fits from.args.severity.now from.args.tail from.args.chance _ c.before.ruin_weight.result from.pre.1 c.before.ruin_weight.ensures)
 
 mul-divide : tie.Need-overflow-mul-divide invariant-loop decreases-loop
 unfolding S
@@ -68,19 +68,19 @@ loop-less c = search rules
 
 loop-again : tie.Need-loop-preserved invariant-loop decreases-loop
 loop-again c =
-    let weight = (weighed c).ruin-weight in
+    let weight = (weighed c).ruin_weight in
     let loop = (at-loop (weighed c)).loop in
     let from = start (at-loop (weighed c)) in
     let a = from.args in
     let value =
-    ruin-value a.round a.income a.severity.now a.tail a.chance a.top loop.i weight.result c.divide.result weight.ensures
+    ruin_value a.round a.income a.severity.now a.tail a.chance a.top loop.i weight.result c.divide.result weight.ensures
     (rw c.before.wide.ensures at c.divide.ensures) in (
       omega (arith, (weighed c).before.loop-test.true),
       rw zero-add at
-          (rewriting-turn a.row.now 0 _ loop.row loop.i c.divide.result loop.inv.1
+          (rewriting_turn a.row.now 0 _ loop.row loop.i c.divide.result loop.inv.1
           (omega (arith, loop.inv.1.same_length, from.pre.0.0, (weighed c).before.loop-test.true))
           value
-          (value-fits a.round a.income a.severity.now a.tail a.chance a.top loop.i c.divide.result from.pre.1 value)),
+          (value_fits a.round a.income a.severity.now a.tail a.chance a.top loop.i c.divide.result from.pre.1 value)),
     )
 
 same_length : tie.Need-same-length invariant-loop decreases-loop

@@ -4,7 +4,7 @@ use native.Mathlib.Omega.{arith}
 use lib.ListN.{length}
 use borrow.Author.Rules.{rules}
 use Rattle.model.specs.Scale.{S}
-use Rattle.ruin_rows.proofs.RuinLaws.{Weighing, weighing-start, weighing-turn, weighing-end}
+use Rattle.ruin_rows.proofs.RuinLaws.{Weighing, weighing_start, weighing_turn, weighing_end}
 use Rattle.ruin_rows.proofs.ruin_weight.Statement.{statement}
 use Rattle.ruin_rows.proofs.ruin_weight.Tie as tie
 
@@ -20,7 +20,7 @@ difference-requires c κs = search rules
 loop-holds : tie.Need-loop-init invariant-loop decreases-loop
 loop-holds c =
     let a = c.before.before.args in
-    weighing-start a.severity.now a.tail a.level c.difference.result c.difference.ensures
+    weighing_start a.severity.now a.tail a.level c.difference.result c.difference.ensures
 
 mul_wide : tie.Need-overflow-mul-wide invariant-loop decreases-loop
 mul_wide c = search rules
@@ -47,7 +47,7 @@ added :
 added c =
     let from = start (at-loop c) in
     let loop = (at-loop c).loop in
-    weighing-turn from.args.severity.now from.args.tail from.args.level loop.weight loop.x c.wide.result from.pre
+    weighing_turn from.args.severity.now from.args.tail from.args.level loop.weight loop.x c.wide.result from.pre
     c.before.before.loop-test.true loop.inv c.wide.ensures
 
 add-weight : tie.Need-overflow-add-weight invariant-loop decreases-loop
@@ -66,7 +66,7 @@ loop-again c = (added c).1
 returns : tie.Need-returns invariant-loop decreases-loop
 returns c =
     let a = (start c.before).args in
-    weighing-end a.severity.now a.tail a.level c.before.loop.weight c.before.loop.x c.loop-test.false c.before.loop.invariant
+    weighing_end a.severity.now a.tail a.level c.before.loop.weight c.before.loop.x c.loop-test.false c.before.loop.invariant
 
 pub ruin-weight-spec : {M : Type 1} → statement M
 ruin-weight-spec =

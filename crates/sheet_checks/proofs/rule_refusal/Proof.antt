@@ -9,14 +9,14 @@ use borrow.Author.Tests.{not-true, not-false}
 use lib.Dec.{eqb}
 use lib.Ieee.{lt, ne}
 use lib.Ieee.Scale.{finite}
-use Rattle.model.specs.Sums.{one-to, any}
+use Rattle.model.specs.Sums.{one_to, any}
 use Rattle.model.specs.Refusal.{first}
-use Rattle.model.proofs.Facts.{head-facts}
+use Rattle.model.proofs.Facts.{head_facts}
 use Rattle.doubles.specs.Doubles.{nought, one, within}
-use Rattle.sheet_values.specs.Sheet.{number_at, sheet-head}
+use Rattle.sheet_values.specs.Sheet.{number_at, sheet_head}
 use Rattle.sheet_values.specs.Rules.{chance}
-use Rattle.sheet_checks.specs.Refusal.{rule-checks}
-use Rattle.sheet_checks.proofs.CheckLaws.{finite-test, alpha-test, step-test, chance-test, rules-first}
+use Rattle.sheet_checks.specs.Refusal.{rule_checks}
+use Rattle.sheet_checks.proofs.CheckLaws.{finite_test, alpha_test, step_test, chance_test, rules_first}
 use Rattle.sheet_checks.proofs.rule_refusal.Statement.{statement}
 use Rattle.sheet_checks.proofs.rule_refusal.Tie as tie
 
@@ -52,7 +52,7 @@ sheet-read c = c.before.before.before.before
 abbrev sheet-bytes : tie.After-double3 → List ℕ
 sheet-bytes c = bytes-at (sheet-read c)
 
-finite-is : (c : tie.After-all-finite) → finite-test (sheet-bytes c.before) ≡ c.all-finite.result
+finite-is : (c : tie.After-all-finite) → finite_test (sheet-bytes c.before) ≡ c.all-finite.result
 finite-is c =
     let first = c.before.before.before.double.ensures in
     let step = c.before.before.double2.ensures in
@@ -60,7 +60,7 @@ finite-is c =
     sym (c.all-finite.ensures ∙ (λ i. finite (first i) && finite (step i) && finite (alpha i)))
 
 returns : tie.Need-returns
-returns c = sym (rules-first _ ∙ rw (finite-is c.before ∙ not-true _ c.if1.true))
+returns c = sym (rules_first _ ∙ rw (finite-is c.before ∙ not-true _ c.if1.true))
 
 alpha-outside-requires : tie.Need-alpha-outside-requires
 alpha-outside-requires c κs = search rules
@@ -72,10 +72,10 @@ doubles-read c = c.before.before
 finite-passed :
     (c : tie.Else1) →
     let b = sheet-bytes (doubles-read c) in
-    first (rule-checks b) ≡ cond (alpha-test b) 13 (cond (step-test b) 13 (cond (chance-test b) 13 0))
-finite-passed c = rules-first _ ∙ rw (finite-is c.before ∙ not-false _ c.if1.false)
+    first (rule_checks b) ≡ cond (alpha_test b) 13 (cond (step_test b) 13 (cond (chance_test b) 13 0))
+finite-passed c = rules_first _ ∙ rw (finite-is c.before ∙ not-false _ c.if1.false)
 
-alpha-is : (c : tie.After-alpha-outside) → alpha-test (sheet-bytes (doubles-read c.before)) ≡ c.alpha-outside.result
+alpha-is : (c : tie.After-alpha-outside) → alpha_test (sheet-bytes (doubles-read c.before)) ≡ c.alpha-outside.result
 alpha-is c =
     let alpha = (doubles-read c.before).double3.ensures in
     sym (c.alpha-outside.ensures ∙ (λ i. lt (alpha i) nought || not (lt (alpha i) one)))
@@ -92,10 +92,10 @@ finite-found c = c.before.before
 alpha-passed :
     (c : tie.Else2) →
     let b = sheet-bytes (doubles-read (finite-found c)) in
-    first (rule-checks b) ≡ cond (step-test b) 13 (cond (chance-test b) 13 0)
+    first (rule_checks b) ≡ cond (step_test b) 13 (cond (chance_test b) 13 0)
 alpha-passed c = finite-passed (finite-found c) ∙ rw (alpha-is c.before ∙ c.if2.false)
 
-step_is : (c : tie.After-level-steps) → step-test (sheet-bytes (doubles-read (finite-found c.before))) ≡ c.level-steps.result
+step_is : (c : tie.After-level-steps) → step_test (sheet-bytes (doubles-read (finite-found c.before))) ≡ c.level-steps.result
 unfolding number_at
 step_is c =
     let read = doubles-read (finite-found c.before) in
@@ -113,23 +113,23 @@ abbrev sheet-at : tie.Else3 → tie.After-sheet-of
 sheet-at c = sheet-read (doubles-read (finite-found (alpha-found c)))
 
 some-outside-requires : tie.Need-some-outside-requires
-unfolding sheet-head
+unfolding sheet_head
 some-outside-requires c κs =
-    omega (arith, ap (λ s. s.months) (sheet-at c).sheet-of.ensures, (head-facts _ (start (sheet-at c)).requires.1).months-fit)
+    omega (arith, ap (λ s. s.months) (sheet-at c).sheet_of.ensures, (head_facts _ (start (sheet-at c)).requires.1).months_fit)
 
-step-passed : (c : tie.Else3) → first (rule-checks (bytes-at (sheet-at c))) ≡ cond (chance-test (bytes-at (sheet-at c))) 13 0
+step-passed : (c : tie.Else3) → first (rule_checks (bytes-at (sheet-at c))) ≡ cond (chance_test (bytes-at (sheet-at c))) 13 0
 step-passed c = alpha-passed (alpha-found c) ∙ rw (step_is c.before ∙ c.if3.false)
 
-chance-is : (c : tie.After-some-outside) → chance-test (bytes-at (sheet-at c.before)) ≡ c.some-outside.result
-chance-is c =
-    let sheet = (sheet-at c.before).sheet-of.ensures in
-    sym (c.some-outside.ensures ∙ (λ i. any (λ t. not (within (chance (sheet i).rule t))) (one-to (sheet i).months)))
+chance_is : (c : tie.After-some-outside) → chance_test (bytes-at (sheet-at c.before)) ≡ c.some-outside.result
+chance_is c =
+    let sheet = (sheet-at c.before).sheet_of.ensures in
+    sym (c.some-outside.ensures ∙ (λ i. any (λ t. not (within (chance (sheet i).rule t))) (one_to (sheet i).months)))
 
 returns-4 : tie.Need-returns-4
-returns-4 c = sym (step-passed c.before.before ∙ rw (chance-is c.before ∙ c.if4.true))
+returns-4 c = sym (step-passed c.before.before ∙ rw (chance_is c.before ∙ c.if4.true))
 
 returns-5 : tie.Need-returns-5
-returns-5 c = sym (step-passed c.before.before ∙ rw (chance-is c.before ∙ c.if4.false))
+returns-5 c = sym (step-passed c.before.before ∙ rw (chance_is c.before ∙ c.if4.false))
 
 pub rule-refusal-spec : {M : Type 1} → statement M
 rule-refusal-spec =

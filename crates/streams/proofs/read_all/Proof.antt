@@ -10,7 +10,7 @@ use lib.ListN.{length}
 use mir.Syntax.{w64}
 use mir.Val.{to_z}
 use Rattle.streams.specs.Reached.{Reached}
-use Rattle.streams.proofs.ReachedLaws.{Going, answered, going-none, going_more, ended-short, ended-full, read-clauses}
+use Rattle.streams.proofs.ReachedLaws.{Going, answered, going_none, going_more, ended_short, ended_full, read_clauses}
 use Rattle.streams.proofs.read_all.Statement.{statement}
 use Rattle.streams.proofs.read_all.Tie as tie
 
@@ -37,7 +37,7 @@ abbrev turn : tie.Else1 invariant-loop decreases-loop → tie.At-loop invariant-
 turn c = (called c).before.before.before
 
 loop-holds : tie.Need-loop-init invariant-loop decreases-loop
-loop-holds c = (going-none _, refl)
+loop-holds c = (going_none _, refl)
 
 sub_read : tie.Need-overflow-sub-read invariant-loop decreases-loop
 sub_read c = search rules
@@ -83,9 +83,9 @@ reached :
     (c : tie.Left-loop invariant-loop decreases-loop)
     → Reached (size c.before) c.before.loop.length (to_z w64 c.loop-test.answer) × (length c.loop-test.buffer ≡ size c.before)
 reached c =
-    ⊎_elim (λ w. rw (w.1, w.2) (ended-full (omega (arith, w.0.left)) c.before.loop.invariant.0, c.before.loop.invariant.1))
+    ⊎_elim (λ w. rw (w.1, w.2) (ended_full (omega (arith, w.0.left)) c.before.loop.invariant.0, c.before.loop.invariant.1))
     (λ w. rw (w.9, w.10) (
-      ended-short (omega (arith, w.0.taken))
+      ended_short (omega (arith, w.0.taken))
           (answered c.before.loop.buffer (filled c.before w.2.last.1.0) _ w.2.result c.before.loop.invariant.1
           (w.3.given.1 ∙ c.before.loop.invariant.1) w.2.ok w.2.ensures w.7.ensures.1)
           w.8.taken,
@@ -101,14 +101,14 @@ same_length c = (reached c.before.before).1
 
 returns : tie.Need-returns invariant-loop decreases-loop
 returns c =
-    read-clauses _ _ _ (to_z w64 c.before.before.loop-test.answer) (reached c.before.before).0 (reached c.before.before).1
+    read_clauses _ _ _ (to_z w64 c.before.before.loop-test.answer) (reached c.before.before).0 (reached c.before.before).1
     (sym c.before.if2.true)
 
 same-length-2 : tie.Need-same-length-2 invariant-loop decreases-loop
 same-length-2 c = (reached c.before).1
 
 returns-2 : tie.Need-returns-2 invariant-loop decreases-loop
-returns-2 c = read-clauses _ _ _ (to_z w64 c.before.loop-test.answer) (reached c.before).0 (reached c.before).1 (sym c.if2.false)
+returns-2 c = read_clauses _ _ _ (to_z w64 c.before.loop-test.answer) (reached c.before).0 (reached c.before).1 (sym c.if2.false)
 
 pub read-all-spec : {M : Type 1} → statement M
 read-all-spec =

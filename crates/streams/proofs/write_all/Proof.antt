@@ -9,7 +9,7 @@ use lib.ListN.{length}
 use mir.Syntax.{w64}
 use mir.Val.{to_z}
 use Rattle.streams.specs.Reached.{Reached}
-use Rattle.streams.proofs.ReachedLaws.{Going, answered, going-none, going_more, ended-short, ended-full, part-is, whole_is}
+use Rattle.streams.proofs.ReachedLaws.{Going, answered, going_none, going_more, ended_short, ended_full, part_is, whole_is}
 use Rattle.streams.proofs.write_all.Statement.{statement}
 use Rattle.streams.proofs.write_all.Tie as tie
 
@@ -29,7 +29,7 @@ abbrev turn : tie.Else1 invariant-loop decreases-loop → tie.At-loop invariant-
 turn c = (called c).before.before.before
 
 loop-holds : tie.Need-loop-init invariant-loop decreases-loop
-loop-holds c = going-none _
+loop-holds c = going_none _
 
 sub-write : tie.Need-overflow-sub-write invariant-loop decreases-loop
 sub-write c = search rules
@@ -70,8 +70,8 @@ loop-again c =
 -- where the loop was left, by its test or by a write that took nothing
 reached : (c : tie.Left-loop invariant-loop decreases-loop) → Reached (length (text_of c.before)) c.before.loop.written (to_z w64 c.loop-test.answer)
 reached c =
-    ⊎_elim (λ w. rw w.1 (ended-full (omega (arith, w.0.left)) c.before.loop.invariant))
-    (λ w. rw w.6 (ended-short (omega (arith, w.0.taken))
+    ⊎_elim (λ w. rw w.1 (ended_full (omega (arith, w.0.left)) c.before.loop.invariant))
+    (λ w. rw w.6 (ended_short (omega (arith, w.0.taken))
     (answered (text_of c.before) (text_of c.before) _ w.2.result refl refl w.2.ok w.2.ensures w.4.ensures.1) w.5.taken))
     c.loop-test.branch
 
@@ -79,7 +79,7 @@ fail-requires : tie.Need-fail-requires invariant-loop decreases-loop
 fail-requires c κs = search rules
 
 returns : tie.Need-returns invariant-loop decreases-loop
-returns c = (reached c.before.before, part-is c.before.if2.true)
+returns c = (reached c.before.before, part_is c.before.if2.true)
 
 returns-2 : tie.Need-returns-2 invariant-loop decreases-loop
 returns-2 c = (reached c.before, whole_is (reached c.before) c.if2.false)

@@ -5,13 +5,13 @@ use native.Mathlib.Omega.{arith}
 use borrow.Author.Rules.{rules}
 use lib.ListN.{length, length-take}
 use lib.Seq.{length-take-le}
-use Rattle.model.specs.Levels.{row-levels}
-use Rattle.model.specs.Refusal.{survival-workspace}
-use Rattle.model.proofs.Facts.{Facts, facts, accepted-head}
-use Rattle.engine.proofs.AnswerLaws.{terms-lent}
-use Rattle.survival.specs.Openings.{openings-refusal}
-use Rattle.survival.proofs.Theorems.{needed-is, Fillable, fillable, bounds-are, unfilled, filled_is, clauses}
-use Rattle.model.proofs.MemoryLaws.{untouched, cleared-is}
+use Rattle.model.specs.Levels.{row_levels}
+use Rattle.model.specs.Refusal.{survival_workspace}
+use Rattle.model.proofs.Facts.{Facts, facts, accepted_head}
+use Rattle.engine.proofs.AnswerLaws.{terms_lent}
+use Rattle.survival.specs.Openings.{openings_refusal}
+use Rattle.survival.proofs.Theorems.{needed_is, Fillable, fillable, bounds_are, unfilled, filled_is, clauses}
+use Rattle.model.proofs.MemoryLaws.{untouched, cleared_is}
 use Rattle.survival.proofs.all_openings.Statement.{statement}
 use Rattle.survival.proofs.all_openings.Tie as tie
 
@@ -34,15 +34,15 @@ returns c =
     let a = (start c.before).args in
     clauses a.head a.row.now a.workspace.now a.workspace.now a.bounds.now a.bounds.now n.result n.ensures
     (unfilled a.head a.row.now a.bounds.now (length a.workspace.now) n.result n.ensures c.if1.true)
-    (untouched n.result _ (survival-workspace a.head) a.workspace.now n.ensures c.if1.true)
+    (untouched n.result _ (survival_workspace a.head) a.workspace.now n.ensures c.if1.true)
 
 -- what is known where no check fits
-none-fits :
-    (c : tie.Else1) → let a = (start c.before).args in openings-refusal a.head a.row.now (length a.workspace.now) (length a.bounds.now) ≡ 0
-none-fits c = sym c.before.check.ensures ∙ c.if1.false
+none_fits :
+    (c : tie.Else1) → let a = (start c.before).args in openings_refusal a.head a.row.now (length a.workspace.now) (length a.bounds.now) ≡ 0
+none_fits c = sym c.before.check.ensures ∙ c.if1.false
 
 known : (c : tie.Else1) → let a = (start c.before).args in Fillable a.head a.row.now (length a.workspace.now) (length a.bounds.now)
-known c = let a = (start c.before).args in fillable a.head a.row.now (length a.workspace.now) (length a.bounds.now) (none-fits c)
+known c = let a = (start c.before).args in fillable a.head a.row.now (length a.workspace.now) (length a.bounds.now) (none_fits c)
 
 fits : (c : tie.Else1) → let a = (start c.before).args in Facts a.head a.row.now
 fits c = let a = (start c.before).args in facts a.head a.row.now (known c).accepted
@@ -51,22 +51,22 @@ add-end : tie.Need-overflow-add-end
 add-end c = omega (arith, (fits c.before).row_is)
 
 row-levels-requires : tie.Need-row-levels-requires
-row-levels-requires c κs = accepted-head _ _ (known c.before).accepted
+row-levels-requires c κs = accepted_head _ _ (known c.before).accepted
 
 -- the workspace has room for what is needed
-enough : (c : tie.After-row-levels) → 2 * c.row-levels.result ≤ length (start (unrefused c).before).args.workspace.now
+enough : (c : tie.After-row-levels) → 2 * c.row_levels.result ≤ length (start (unrefused c).before).args.workspace.now
 enough c =
     let else1 = unrefused c in
-    omega (arith, (known else1).enough, needed-is (start else1.before).args.head c.row-levels.result c.row-levels.ensures)
+    omega (arith, (known else1).enough, needed_is (start else1.before).args.head c.row_levels.result c.row_levels.ensures)
 
 mul-needed : tie.Need-overflow-mul-needed
 mul-needed c = omega (arith, enough c)
 
 add-places : tie.Need-overflow-add-places
-add-places c = omega (arith, (fits (unrefused c)).head.opening-fits)
+add-places c = omega (arith, (fits (unrefused c)).head.opening_fits)
 
 mul-places : tie.Need-overflow-mul-places
-mul-places c = omega (arith, (fits (unrefused c)).head.opening-fits)
+mul-places c = omega (arith, (fits (unrefused c)).head.opening_fits)
 
 slice-relend-prefix-put-openings : tie.Need-slice-relend-prefix-put-openings
 slice-relend-prefix-put-openings c = omega (arith, (known (unrefused c)).wide)
@@ -84,7 +84,7 @@ slice-aggregate-put-openings-3 : tie.Need-slice-aggregate-put-openings-3
 slice-aggregate-put-openings-3 c = simp length-take (omega (arith, (fits (unrefused c.before.before.before)).row_is))
 
 mul-put-openings : tie.Need-overflow-mul-put-openings
-mul-put-openings c = omega (arith, (fits (unrefused c.before.before.before)).head.months-fit)
+mul-put-openings c = omega (arith, (fits (unrefused c.before.before.before)).head.months_fit)
 
 sub-put-openings : tie.Need-overflow-sub-put-openings
 sub-put-openings c = search rules
@@ -104,11 +104,11 @@ put-openings-requires c κs =
       length-take-le (2 * (a.head.opening + 1)) a.bounds.now (known else1).wide,
       (
         (
-          (fits else1).head.income-some,
-          length-take-le (2 * at-levels.row-levels.result) a.workspace.now (enough at-levels)
-              ∙ ap (λ n. 2 * n) (at-levels.row-levels.ensures ∙ ap (λ n. row-levels a.head.income a.head.opening n) (sym months)),
+          (fits else1).head.income_some,
+          length-take-le (2 * at-levels.row_levels.result) a.workspace.now (enough at-levels)
+              ∙ ap (λ n. 2 * n) (at-levels.row_levels.ensures ∙ ap (λ n. row_levels a.head.income a.head.opening n) (sym months)),
         ),
-        terms-lent a.head a.row.now (fits else1) a.head.months,
+        terms_lent a.head a.row.now (fits else1) a.head.months,
       ),
     )
 
@@ -126,11 +126,11 @@ returns-2 c =
     let a = (start else1.before).args in
     let h = a.head in
     let row = a.row.now in
-    clauses h row a.workspace.now _ a.bounds.now _ 0 (sym (none-fits else1))
-    (filled_is h row a.bounds.now put.put-openings.new.0 (length a.workspace.now) (2 * (h.opening + 1)) (none-fits else1) refl
-    (put.put-openings.ensures.0 ∙ bounds-are h row))
-    (cleared-is _ (2 * at-levels.row-levels.result) (survival-workspace h) a.workspace.now put.put-openings.new.1.0 (none-fits else1)
-    (needed-is h at-levels.row-levels.result at-levels.row-levels.ensures) (enough at-levels) put.put-openings.ensures.1)
+    clauses h row a.workspace.now _ a.bounds.now _ 0 (sym (none_fits else1))
+    (filled_is h row a.bounds.now put.put-openings.new.0 (length a.workspace.now) (2 * (h.opening + 1)) (none_fits else1) refl
+    (put.put-openings.ensures.0 ∙ bounds_are h row))
+    (cleared_is _ (2 * at-levels.row_levels.result) (survival_workspace h) a.workspace.now put.put-openings.new.1.0 (none_fits else1)
+    (needed_is h at-levels.row_levels.result at-levels.row_levels.ensures) (enough at-levels) put.put-openings.ensures.1)
 
 pub all-openings-spec : {M : Type 1} → statement M
 all-openings-spec =

@@ -5,7 +5,7 @@ use native.Mathlib.Omega.{arith}
 use lib.Seq.{length-take-le}
 use borrow.Author.Rules.{rules}
 use Rattle.model.specs.Limits.{row_room}
-use Rattle.model.proofs.Facts.{head-facts}
+use Rattle.model.proofs.Facts.{head_facts}
 use Rattle.test_tables.proofs.read_plan.Statement.{statement}
 use Rattle.test_tables.proofs.read_plan.Tie as tie
 
@@ -33,10 +33,10 @@ returns c = search rules
 row-length-requires : tie.Need-row-length-requires
 row-length-requires c κs = search rules
 
-fits : (c : tie.After-row-length) → c.row-length.result ≤ row_room
+fits : (c : tie.After-row-length) → c.row_length.result ≤ row_room
 fits c =
-    let head = head-facts _ (sym c.before.before.head-refusal.ensures ∙ c.before.if1.false) in
-    omega (arith, c.row-length.ensures, head.months-fit, head.sizes-fit)
+    let head = head_facts _ (sym c.before.before.head-refusal.ensures ∙ c.before.if1.false) in
+    omega (arith, c.row_length.ensures, head.months_fit, head.sizes_fit)
 
 array-share-prefix-row : tie.Need-array-share-prefix-row
 array-share-prefix-row c = omega (arith, fits c)

@@ -2,7 +2,7 @@
 use mathlib.Core.Path.{refl}
 use borrow.Author.Rules.{rules}
 use Rattle.model.specs.Scale.{S}
-use Rattle.test_tables.specs.Rounded.{ten-thousandths}
+use Rattle.test_tables.specs.Rounded.{ten_thousandths}
 use Rattle.test_tables.proofs.rounded.Statement.{statement}
 use Rattle.test_tables.proofs.rounded.Tie as tie
 
@@ -22,7 +22,7 @@ div-result : tie.Need-nonzero-div-result
 div-result c = search rules
 
 returns : tie.Need-returns
-unfolding ten-thousandths S
+unfolding ten_thousandths S
 returns c = refl
 
 pub rounded-spec : {M : Type 1} → statement M

@@ -3,7 +3,7 @@ use mathlib.Core.Path.{sym}
 use lib.Seq.{length-take-le}
 use borrow.Author.Rules.{rules}
 use borrow.Author.Tests.{eq-eqb, ne_eqb}
-use Rattle.test_vectors.specs.Rooms.{used-after}
+use Rattle.test_vectors.specs.Rooms.{used_after}
 use Rattle.test_vectors.proofs.step.Statement.{statement}
 use Rattle.test_vectors.proofs.step.Tie as tie
 
@@ -14,7 +14,7 @@ same_length : tie.Need-same-length
 same_length c = search rules
 
 returns : tie.Need-returns
-unfolding used-after
+unfolding used_after
 returns c =
     let read = c.before.before in
     (rw (eq-eqb _ 0 read.before.before.if1.true) read.read-row.ensures.0, search rules)
@@ -32,7 +32,7 @@ same-length-2 : tie.Need-same-length-2
 same-length-2 c = search rules
 
 returns-2 : tie.Need-returns-2
-unfolding used-after
+unfolding used_after
 returns-2 c = (rw (ne_eqb _ 0 c.before.before.if1.false), search rules)
 
 pub step_spec : {M : Type 1} → statement M

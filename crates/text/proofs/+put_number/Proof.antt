@@ -1,7 +1,7 @@
 -- The proof of the cycle of calls {put_number}: the number falls. Its last digit stands after the digits of the tenth.
 use native.Mathlib.Omega.{arith}
 use borrow.Author.Rules.{rules}
-use Rattle.text.proofs.TextLaws.{appended-more, decimal-small, decimal-tens, decimal-small-length, decimal-tens-length}
+use Rattle.text.proofs.TextLaws.{appended_more, decimal_small, decimal_tens, decimal_small_length, decimal_tens_length}
 use Prim.Native.Nat.{ℕ, ◌<◌}
 use borrow.Fn.Kinds.{In, Out}
 use borrow.Fn.PlainCycle.{Measures, is, falls, and}
@@ -47,7 +47,7 @@ put-number-add-digit : (t : ℕ) → At put-number-lts.Need-overflow-add-digit t
 put-number-add-digit t c = search rules
 
 put-number-put-byte-requires : (t : ℕ) → At put-number-lts.Need-put-byte-requires t
-put-number-put-byte-requires t c κs = omega (arith, decimal-small-length (small t c).args.x (search rules))
+put-number-put-byte-requires t c κs = omega (arith, decimal_small_length (small t c).args.x (search rules))
 
 put-number-same-length : (t : ℕ) → At put-number-lts.Need-same-length t
 put-number-same-length t c = search rules
@@ -55,16 +55,16 @@ put-number-same-length t c = search rules
 put-number-returns : (t : ℕ) → At put-number-lts.Need-returns t
 put-number-returns t c =
     let put = c.before.before in
-    rw (decimal-small (small t put.before).args.x (search rules)) put.put_byte.ensures
+    rw (decimal_small (small t put.before).args.x (search rules)) put.put_byte.ensures
 
 put-number-put-number-requires : (t : ℕ) → At put-number-lts.Need-put-number-requires t
 put-number-put-number-requires t c κs =
-    (omega arith, omega (arith, decimal-tens-length (large t c).args.x (search rules) (search rules)))
+    (omega arith, omega (arith, decimal_tens_length (large t c).args.x (search rules) (search rules)))
 
 put-number-put-byte-requires-2 : (t : ℕ) → At put-number-lts.Need-put-byte-requires-2 t
 put-number-put-byte-requires-2 t c κs =
     let tens = tenth t c in
-    omega (arith, tens.put-number.ensures.ends, decimal-tens-length (large t tens.before).args.x (search rules) (search rules))
+    omega (arith, tens.put-number.ensures.ends, decimal_tens_length (large t tens.before).args.x (search rules) (search rules))
 
 put-number-same-length-2 : (t : ℕ) → At put-number-lts.Need-same-length-2 t
 put-number-same-length-2 t c = search rules
@@ -73,8 +73,8 @@ put-number-returns-2 : (t : ℕ) → At put-number-lts.Need-returns-2 t
 put-number-returns-2 t c =
     let put = c.before.before in
     let tens = tenth t put.before in
-    rw (decimal-tens (large t tens.before).args.x (search rules) (search rules))
-    (appended-more tens.put-number.ensures put.put-byte2.ensures)
+    rw (decimal_tens (large t tens.before).args.x (search rules) (search rules))
+    (appended_more tens.put-number.ensures put.put-byte2.ensures)
 
 pub +put-number-spec : {M : Type 1} → statement M
 +put-number-spec = close μ-put-number λ t. put-number-lts.spec (claims t)

@@ -1,5 +1,5 @@
 -- `text::put_byte` meets its contract: a store after the text's end appends one byte. Assumes nothing.
-use Rattle.text.proofs.TextLaws.{appended-byte}
+use Rattle.text.proofs.TextLaws.{appended_byte}
 use borrow.Author.Rules.{rules}
 use Rattle.text.proofs.put_byte.Statement.{statement}
 use Rattle.text.proofs.put_byte.Tie as tie
@@ -14,7 +14,7 @@ same_length : tie.Need-same-length
 same_length c = search rules
 
 returns : tie.Need-returns
-returns c = appended-byte _ _ _ (search rules)
+returns c = appended_byte _ _ _ (search rules)
 
 pub put-byte-spec : {M : Type 1} → statement M
 put-byte-spec = tie.close (tie.spec slice-write-buffer add-result same_length returns)

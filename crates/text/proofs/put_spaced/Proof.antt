@@ -1,6 +1,6 @@
 -- `text::put_spaced` meets its contract: a space, then the number. Assumes nothing.
 use borrow.Author.Rules.{rules}
-use Rattle.text.proofs.TextLaws.{appended-more}
+use Rattle.text.proofs.TextLaws.{appended_more}
 use Rattle.text.proofs.put_spaced.Statement.{statement}
 use Rattle.text.proofs.put_spaced.Tie as tie
 
@@ -20,7 +20,7 @@ same_length c = search rules
 returns : tie.Need-returns
 returns c =
     let put = c.before.before in
-    appended-more (space put.before).put_byte.ensures put.put-number.ensures
+    appended_more (space put.before).put_byte.ensures put.put-number.ensures
 
 pub put-spaced-spec : {M : Type 1} → statement M
 put-spaced-spec = tie.close (tie.spec put-byte-requires put-number-requires same_length returns)

@@ -3,7 +3,7 @@ use borrow.Author.Rules.{rules}
 use native.Mathlib.Omega.{arith}
 use Prim.Native.Nat.{◌-◌}
 use lib.ListN.{length}
-use Rattle.text.proofs.TextLaws.{Appending, appending-start, appending-room-each, appending-turn, appending-done, byte_of, bytes-are}
+use Rattle.text.proofs.TextLaws.{Appending, appending_start, appending_room_each, appending_turn, appending_done, byte_of, bytes_are}
 use Rattle.text.proofs.put_word.Statement.{statement}
 use Rattle.text.proofs.put_word.Tie as tie
 
@@ -21,13 +21,13 @@ abbrev at-loop : tie.After-shared-slice-known2 invariant-loop decreases-loop →
 at-loop c = c.before.before.before
 
 loop-holds : tie.Need-loop-init invariant-loop decreases-loop
-loop-holds c = appending-start (search rules)
+loop-holds c = appending_start (search rules)
 
 shared-slice-read-put-byte : tie.Need-shared-slice-read-put-byte invariant-loop decreases-loop
 shared-slice-read-put-byte c = search rules
 
 put-byte-requires : tie.Need-put-byte-requires invariant-loop decreases-loop
-put-byte-requires c κs = omega (arith, appending-room-each (at-loop c).loop.invariant 1 (λ j. omega arith) (search rules) (search rules))
+put-byte-requires c κs = omega (arith, appending_room_each (at-loop c).loop.invariant 1 (λ j. omega arith) (search rules) (search rules))
 
 add-i : tie.Need-overflow-add-i invariant-loop decreases-loop
 add-i c = search rules
@@ -38,13 +38,13 @@ loop-less c = search rules
 loop-again : tie.Need-loop-preserved invariant-loop decreases-loop
 loop-again c =
     let put = c.before.before in
-    appending-turn (at-loop put.before).loop.inv (search rules) put.put_byte.auto.0 put.put_byte.ensures
+    appending_turn (at-loop put.before).loop.inv (search rules) put.put_byte.auto.0 put.put_byte.ensures
 
 same_length : tie.Need-same-length invariant-loop decreases-loop
 same_length c = search rules
 
 returns : tie.Need-returns invariant-loop decreases-loop
-returns c = rw (bytes-are (start c.before).args.word.now) at (appending-done c.before.loop.invariant (search rules))
+returns c = rw (bytes_are (start c.before).args.word.now) at (appending_done c.before.loop.invariant (search rules))
 
 pub put-word-spec : {M : Type 1} → statement M
 put-word-spec =

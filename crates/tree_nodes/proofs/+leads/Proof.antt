@@ -4,11 +4,11 @@ use mathlib.Core.Path.{refl, ◌∙◌}
 use native.Mathlib.Omega.{arith}
 use borrow.Author.Rules.{rules}
 use lib.ListN.{length, get_or, take, drop}
-use Rattle.model.specs.MonthRule.{rule-of}
-use Rattle.model.proofs.Values.{no-chances}
-use Rattle.plain_engine.proofs.ValueLaws.{fewer-months, followed-within}
+use Rattle.model.specs.MonthRule.{rule_of}
+use Rattle.model.proofs.Values.{no_chances}
+use Rattle.plain_engine.proofs.ValueLaws.{fewer_months, followed_within}
 use Rattle.tree_nodes.specs.Nodes.{leads as Nodes·leads}
-use Rattle.tree_nodes.proofs.NodeLaws.{claim-test, Trying, trying_start, trying-turn, trying-end, test-is, branches-are, leads-is, no-months}
+use Rattle.tree_nodes.proofs.NodeLaws.{claim_test, Trying, trying_start, trying_turn, trying_end, test_is, branches_are, leads_is, no_months}
 use borrow.Fn.Kinds.{In, Out}
 use borrow.Fn.PlainCycle.{Measures, is, falls, and}
 use Rattle.tree_nodes.proofs.leads.Reads as leads
@@ -39,7 +39,7 @@ claims t = (both-reads.Asked, both-reads.Learnt, leads-below t, leads.Post, may-
 
 abbrev leads-Inv-loop : leads-lts.invariant-loop
 leads-Inv-loop question month chances severity left level target later next chance quiet found₀ fewer most x₀ found x =
-    Trying found₀ (claim-test question severity chance (Nodes·leads question severity next (take (length chances - 1) (drop 1 chances)) target.left target.level) fewer level) most found x
+    Trying found₀ (claim_test question severity chance (Nodes·leads question severity next (take (length chances - 1) (drop 1 chances)) target.left target.level) fewer level) most found x
 
 abbrev leads-μ-loop : leads-lts.decreases-loop
 leads-μ-loop question month chances severity left level target later next chance quiet found₀ fewer most x₀ found x = most - x
@@ -66,7 +66,7 @@ some-month : (t : ℕ) (c : At leads-lts.Else1 t) → 0 < length (start t c).arg
 some-month t c = omega arith
 
 fewer : (t : ℕ) (c : At leads-lts.Else1 t) → let Ps = (start t c).args.chances.now in length (take (length Ps - 1) (drop 1 Ps)) < t
-fewer t c = omega (arith, (start t c).requires.0, fewer-months (start t c).args.chances.now, some-month t c)
+fewer t c = omega (arith, (start t c).requires.0, fewer_months (start t c).args.chances.now, some-month t c)
 
 -- a size that is followed has a weight, and leads to a level above 0
 inside :
@@ -76,7 +76,7 @@ inside :
 inside t c =
     let at = c.before.before in
     let a = (start t (months-left t (quiet t at).before)).args in
-    let all = followed-within ((rule-of a.question).after-claim a.left) at.before.lesser.result in
+    let all = followed_within ((rule_of a.question).after_claim a.left) at.before.lesser.result in
     (omega (arith, c.loop-test.true, at.followed.ensures, at.before.lesser.ensures, all), omega (arith, c.loop-test.true, at.followed.ensures, at.before.lesser.ensures, all))
 
 leads-both-requires : (t : ℕ) → At leads-lts.Need-both-requires t
@@ -85,8 +85,8 @@ leads-both-requires t c κs = tt
 leads-returns : (t : ℕ) → At leads-lts.Need-returns t
 leads-returns t c =
     let a = c.before.before.before.before.before.before.args in
-    rw (no-chances a.chances.now (omega arith))
-    (c.both.ensures ∙ no-months a.question a.severity.now a.month a.target.left a.target.level a.left a.level)
+    rw (no_chances a.chances.now (omega arith))
+    (c.both.ensures ∙ no_months a.question a.severity.now a.month a.target.left a.target.level a.left a.level)
 
 leads-sub-later : (t : ℕ) → At leads-lts.Need-overflow-sub-later t
 leads-sub-later t c = search rules
@@ -109,7 +109,7 @@ leads-add-leads t c = omega (arith, (start t (months-left t c)).pre.1.1, some-mo
 leads-leads-requires : (t : ℕ) → At leads-lts.Need-leads-requires t
 leads-leads-requires t c κs =
     let from = start t (months-left t c) in
-    let one = fewer-months from.args.chances.now in
+    let one = fewer_months from.args.chances.now in
     let some = some-month t (months-left t c) in
     (fewer t (months-left t c), (omega (arith, one, some, from.pre.1.0), omega (arith, one, some, from.pre.1.1)))
 
@@ -138,7 +138,7 @@ leads-leads-requires-2 : (t : ℕ) → At leads-lts.Need-leads-requires-2 t
 leads-leads-requires-2 t c κs =
     let else1 = months-left t (quiet t c.before.before).before in
     let from = start t else1 in
-    let one = fewer-months from.args.chances.now in
+    let one = fewer_months from.args.chances.now in
     let some = some-month t else1 in
     (fewer t else1, (omega (arith, one, some, from.pre.1.0), omega (arith, one, some, from.pre.1.1)))
 
@@ -168,8 +168,8 @@ leads-loop-again t c =
     let at_turn = turn t c in
     let loop = at_turn.before in
     let a = (start t (months-left t (quiet t loop.before).before)).args in
-    trying-turn _ _ _ _ loop.loop.x c.before.both3.result c.either.result at_turn.loop-test.taken
-    (test-is a.question a.severity.now (get_or a.chances.now 0 0) (Nodes·leads a.question a.severity.now (a.month + 1) (take (length a.chances.now - 1) (drop 1 a.chances.now)) a.target.left a.target.level)
+    trying_turn _ _ _ _ loop.loop.x c.before.both3.result c.either.result at_turn.loop-test.taken
+    (test_is a.question a.severity.now (get_or a.chances.now 0 0) (Nodes·leads a.question a.severity.now (a.month + 1) (take (length a.chances.now - 1) (drop 1 a.chances.now)) a.target.left a.target.level)
     loop.before.before.before.claims-after.result a.level loop.loop.x c.before.before.may-come.result c.before.before.before.before.leads2.result c.before.both3.result
     c.before.before.may-come.ensures c.before.before.before.before.leads2.ensures c.before.both3.ensures)
     c.either.ensures loop.loop.inv
@@ -189,12 +189,12 @@ leads-returns-2 t c =
     let else1 = months-left t came.before in
     let a = (start t else1).args in
     let next = Nodes·leads a.question a.severity.now (a.month + 1) (take (length a.chances.now - 1) (drop 1 a.chances.now)) a.target.left a.target.level in
-    leads-is a.question a.severity.now a.month a.chances.now a.target.left a.target.level a.left a.level c.before.node-allowed.result ended.before.loop.found c.both4.result
-    (some-month t else1) c.before.node-allowed.ensures
-    (branches-are a.question a.severity.now (get_or a.chances.now 0 0) next a.left a.level at.followed.result at.before.lesser.result at.before.before.claims-after.result
+    leads_is a.question a.severity.now a.month a.chances.now a.target.left a.target.level a.left a.level c.before.node_allowed.result ended.before.loop.found c.both4.result
+    (some-month t else1) c.before.node_allowed.ensures
+    (branches_are a.question a.severity.now (get_or a.chances.now 0 0) next a.left a.level at.followed.result at.before.lesser.result at.before.before.claims-after.result
     found.before.may-pass.result came.leads.result found.both2.result ended.before.loop.found
     found.before.may-pass.ensures came.leads.ensures found.both2.ensures at.before.lesser.ensures at.followed.ensures at.before.before.claims-after.ensures
-    (trying-end _ _ _ _ _ ended.loop-test.false ended.before.loop.invariant))
+    (trying_end _ _ _ _ _ ended.loop-test.false ended.before.loop.invariant))
     c.both4.ensures
 
 pub +leads-spec : {M : Type 1} → statement M

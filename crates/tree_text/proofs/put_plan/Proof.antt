@@ -5,14 +5,14 @@ use native.Mathlib.Nat.{le_trans}
 use native.Mathlib.Omega.{arith}
 use lib.ListN.{length, get_or, take, drop}
 use lib.Seq.{length-take-le}
-use Rattle.model.specs.Limits.{max-small-months, max-sizes}
-use Rattle.model.proofs.Facts.{facts, head-facts, accepted-head}
-use Rattle.plain_engine.specs.Answers.{plain-refusal}
+use Rattle.model.specs.Limits.{max_small_months, max_sizes}
+use Rattle.model.proofs.Facts.{facts, head_facts, accepted_head}
+use Rattle.plain_engine.specs.Answers.{plain_refusal}
 use Rattle.plain_engine.proofs.Theorems.{Taken, taken}
-use Rattle.text.proofs.TextLaws.{appended-none, appended-as}
+use Rattle.text.proofs.TextLaws.{appended_none, appended_as}
 use Rattle.tree_text.specs.Terms.{SmallTerms}
-use Rattle.tree_text.proofs.TreeLaws.{accepted-refused, beyond-months, month-lent, terms-lent}
-use Rattle.tree_text.proofs.RoomLaws.{month-room}
+use Rattle.tree_text.proofs.TreeLaws.{accepted_refused, beyond_months, month_lent, terms_lent}
+use Rattle.tree_text.proofs.RoomLaws.{month_room}
 use borrow.Author.Rules.{rules}
 use Rattle.tree_text.proofs.put_plan.Statement.{statement}
 use Rattle.tree_text.proofs.put_plan.Tie as tie
@@ -28,23 +28,23 @@ abbrev lent : tie.After-put-month-arg2 → tie.Else2
 lent c = c.before.before
 
 -- the plan is accepted by the plain engine, and has the month
-not-refused : (c : tie.Else1) → let a = (start c.before).args in plain-refusal (record { head = a.head; question = a.question }) a.row.now ≡ 0
-not-refused c = sym c.before.refusal.ensures ∙ c.if1.false
+not_refused : (c : tie.Else1) → let a = (start c.before).args in plain_refusal (record { head = a.head; question = a.question }) a.row.now ≡ 0
+not_refused c = sym c.before.refusal.ensures ∙ c.if1.false
 
 known : (c : tie.Else1) → let a = (start c.before).args in Taken (record { head = a.head; question = a.question }) a.row.now
-known c = taken _ _ (not-refused c)
+known c = taken _ _ (not_refused c)
 
 terms :
     (c : tie.Else2) → let a = (start (taken-ask c).before).args in
     SmallTerms a.question a.head.opening (take a.head.months a.row.now) (take (a.head.months + a.head.sizes - a.head.months) (drop a.head.months a.row.now)) (get_or a.row.now (a.head.months + a.head.sizes) 0) a.month
-terms c = let a = (start (taken-ask c).before).args in terms-lent a.question a.head a.row.now a.month (known (taken-ask c)) c.if2.false
+terms c = let a = (start (taken-ask c).before).args in terms_lent a.question a.head a.row.now a.month (known (taken-ask c)) c.if2.false
 
 -- the row has the chances, the weights and over
 within : (c : tie.Else1) → let a = (start c.before).args in a.head.months + a.head.sizes < length a.row.now
 within c = omega (arith, (facts _ _ (known c).accepted).row_is)
 
-small : (c : tie.Else1) → let h = (start c.before).args.head in h.months + h.sizes ≤ max-small-months + max-sizes
-small c = omega (arith, (known c).months-few, (head-facts _ (accepted-head _ _ (known c).accepted)).sizes-fit)
+small : (c : tie.Else1) → let h = (start c.before).args.head in h.months + h.sizes ≤ max_small_months + max_sizes
+small c = omega (arith, (known c).months_few, (head_facts _ (accepted_head _ _ (known c).accepted)).sizes_fit)
 
 refusal-requires : tie.Need-refusal-requires
 refusal-requires c κs = search rules
@@ -60,7 +60,7 @@ returns c =
     let put = c.before.before in
     let then1 = put.before.before in
     let a = (start then1.before).args in
-    appended-as (accepted-refused a.question a.head a.row.now a.month then1.before.refusal.result then1.before.refusal.ensures then1.if1.true) put.put_first.ensures
+    appended_as (accepted_refused a.question a.head a.row.now a.month then1.before.refusal.result then1.before.refusal.ensures then1.if1.true) put.put_first.ensures
 
 add-end : tie.Need-overflow-add-end
 add-end c = omega (arith, within c.before)
@@ -68,13 +68,13 @@ add-end c = omega (arith, within c.before)
 returns-2 : tie.Need-returns-2
 returns-2 c =
     let a = (start c.before.before.before).args in
-    appended-as (beyond-months a.question a.head a.row.now a.month (not-refused c.before.before) c.if2.true) (appended-none a.text.now 0 (omega arith))
+    appended_as (beyond_months a.question a.head a.row.now a.month (not_refused c.before.before) c.if2.true) (appended_none a.text.now 0 (omega arith))
 
 slice-aggregate-put-month : tie.Need-slice-aggregate-put-month
 slice-aggregate-put-month c = let a = (start (taken-ask (lent c)).before).args in sym (length-take-le a.head.months a.row.now (omega (arith, within (taken-ask (lent c)))))
 
 mul-put-month : tie.Need-overflow-mul-put-month
-mul-put-month c = omega (arith, (known (taken-ask (lent c))).months-few)
+mul-put-month c = omega (arith, (known (taken-ask (lent c))).months_few)
 
 sub-put-month : tie.Need-overflow-sub-put-month
 sub-put-month c = search rules
@@ -94,7 +94,7 @@ shared-slice-read-put-month c = within (taken-ask (lent c.before.before))
 put-month-requires : tie.Need-put-month-requires
 put-month-requires c κs =
     let else2 = lent c.before.before in
-    (terms else2, le_trans (month-room (terms else2)) (start (taken-ask else2).before).requires.1)
+    (terms else2, le_trans (month_room (terms else2)) (start (taken-ask else2).before).requires.1)
 
 same-length-2 : tie.Need-same-length-2
 same-length-2 c = search rules
@@ -104,7 +104,7 @@ returns-3 c =
     let put = c.before.before in
     let else2 = lent put.before.before.before in
     let a = (start (taken-ask else2).before).args in
-    appended-as (month-lent a.question a.head a.row.now a.month (not-refused (taken-ask else2)) else2.if2.left) put.put-month.ensures
+    appended_as (month_lent a.question a.head a.row.now a.month (not_refused (taken-ask else2)) else2.if2.left) put.put-month.ensures
 
 pub put-plan-spec : {M : Type 1} → statement M
 put-plan-spec =

@@ -2,7 +2,7 @@
 use mathlib.Core.Path.{ap₂}
 use Prim.Native.Nat.{ℕ}
 use Rattle.model.specs.MonthRule.{kept}
-use Rattle.tree_values.specs.Lines.{node-value}
+use Rattle.tree_values.specs.Lines.{node_value}
 use borrow.Author.Rules.{rules}
 use Rattle.tree_values.proofs.bounds_of.Statement.{statement}
 use Rattle.tree_values.proofs.bounds_of.Tie as tie
@@ -23,9 +23,9 @@ taken-requires-2 : tie.Need-taken-requires-2
 taken-requires-2 c κs = search rules
 
 returns : tie.Need-returns
-unfolding node-value kept
+unfolding node_value kept
 returns c =
-    let allowed = c.before.before.before.before.node-allowed.ensures in
+    let allowed = c.before.before.before.before.node_allowed.ensures in
     rw (← allowed, ← c.before.before.before.value.ensures, ← c.before.before.value2.ensures) (ap₂ (λ (low high : ℕ). record { lower = low; upper = high }) c.before.taken.ensures c.taken2.ensures)
 
 pub bounds-of-spec : {M : Type 1} → statement M

@@ -1,6 +1,6 @@
 -- `put_left` meets its contract, case by case.
 use Rattle.text.proofs.TextLaws.{appended_nothing}
-use Rattle.tree_values.proofs.ValueLines.{left_both, left-survive, left-high, left-low}
+use Rattle.tree_values.proofs.ValueLines.{left_both, left_survive, left_high, left_low}
 use borrow.Author.Rules.{rules}
 use Rattle.tree_values.proofs.put_left.Statement.{statement}
 use Rattle.tree_values.proofs.put_left.Tie as tie
@@ -27,7 +27,7 @@ enum-told-4 : tie.Need-enum-told-4
 enum-told-4 c = search rules
 
 returns : tie.Need-returns
-returns c = let a = c.before.before.before.args in appended_nothing _ a.text.now a.at (left-survive a.question a.left c.enum_told.given.1) c.before.before.before.requires
+returns c = let a = c.before.before.before.args in appended_nothing _ a.text.now a.at (left_survive a.question a.left c.enum_told.given.1) c.before.before.before.requires
 
 same_length : tie.Need-same-length
 same_length c = search rules
@@ -36,10 +36,10 @@ returns-2 : tie.Need-returns-2
 returns-2 c = let a = c.before.before.before.before.before.before.before.before.before.args in rw (left_both a.question a.left _ c.before.before.before.before.before.before.enum-told2.given.1) c.before.before.put-entry.ensures
 
 returns-3 : tie.Need-returns-3
-returns-3 c = let a = c.before.before.before.args in appended_nothing _ a.text.now a.at (left-high a.question a.left _ c.enum-told3.given.1) c.before.before.before.requires
+returns-3 c = let a = c.before.before.before.args in appended_nothing _ a.text.now a.at (left_high a.question a.left _ c.enum-told3.given.1) c.before.before.before.requires
 
 returns-4 : tie.Need-returns-4
-returns-4 c = let a = c.before.before.before.args in appended_nothing _ a.text.now a.at (left-low a.question a.left _ c.enum-told4.given.1) c.before.before.before.requires
+returns-4 c = let a = c.before.before.before.args in appended_nothing _ a.text.now a.at (left_low a.question a.left _ c.enum-told4.given.1) c.before.before.before.requires
 
 pub put-left-spec : {M : Type 1} → statement M
 put-left-spec =

@@ -4,8 +4,8 @@ use mathlib.Core.Logic.{⊎_elim}
 use Prim.Native.Nat.{ℕ, ◌<◌, ◌≤◌}
 use native.Mathlib.Nat.{le_refl}
 use lib.ListN.{length, length-replicate}
-use Rattle.model.specs.Limits.{max-sizes}
-use Rattle.claims.proofs.ListingLaws.{Listed, listed-filled, listed-empty, listed-end}
+use Rattle.model.specs.Limits.{max_sizes}
+use Rattle.claims.proofs.ListingLaws.{Listed, listed_filled, listed_empty, listed_end}
 use borrow.Author.Rules.{rules}
 use native.Mathlib.Omega.{arith}
 use Rattle.claims.proofs.sizes.filled_above.Statement.{statement}
@@ -18,7 +18,7 @@ abbrev decreases-loop : tie.decreases-loop
 decreases-loop severity dense sizes₀ count₀ x₀ sizes count x = x
 
 loop-holds : tie.Need-loop-init invariant-loop decreases-loop
-loop-holds c = (c.requires.1, le_refl _, record { room = length-replicate {A = ℕ} max-sizes 0; fits = omega arith; whole = refl })
+loop-holds c = (c.requires.1, le_refl _, record { room = length-replicate {A = ℕ} max_sizes 0; fits = omega arith; whole = refl })
 
 abbrev turn : tie.After-shared-slice-known invariant-loop decreases-loop → tie.In-loop invariant-loop decreases-loop
 turn c = c.before
@@ -57,15 +57,15 @@ loop-again c =
       omega (arith, at_turn.loop-test.taken),
       omega (arith, loop.inv.1),
       ⊎_elim
-          (λ t. listed-filled F loop.sizes _ loop.count loop.x _ from.pre.0 here t.0.taken t.1 t.2 loop.inv.2)
-          (λ t. listed-empty F loop.sizes _ loop.count loop.x _ here t.0.left t.1 t.2 loop.inv.2) c.if1.branch,
+          (λ t. listed_filled F loop.sizes _ loop.count loop.x _ from.pre.0 here t.0.taken t.1 t.2 loop.inv.2)
+          (λ t. listed_empty F loop.sizes _ loop.count loop.x _ here t.0.left t.1 t.2 loop.inv.2) c.if1.branch,
     )
 
 returns : tie.Need-returns invariant-loop decreases-loop
 returns c =
     let loop = c.before.loop in
     let from = c.before.before in (
-      listed-end from.args.severity.now loop.sizes loop.count loop.x from.args.dense c.loop-test.false loop.invariant.0 loop.invariant.2,
+      listed_end from.args.severity.now loop.sizes loop.count loop.x from.args.dense c.loop-test.false loop.invariant.0 loop.invariant.2,
       (omega (arith, loop.invariant.2.fits, loop.invariant.2.room, from.requires.0), refl),
     )
 

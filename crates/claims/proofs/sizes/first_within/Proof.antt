@@ -3,7 +3,7 @@ use mathlib.Core.Path.{refl}
 use Prim.Native.Nat.{◌-◌}
 use native.Mathlib.Omega.{arith}
 use lib.ListN.{length}
-use Rattle.claims.proofs.ListingLaws.{Searching, searching-turn, searching-found, searching-none}
+use Rattle.claims.proofs.ListingLaws.{Searching, searching_turn, searching_found, searching_none}
 use borrow.Author.Rules.{rules}
 use Rattle.claims.proofs.sizes.first_within.Statement.{statement}
 use Rattle.claims.proofs.sizes.first_within.Tie as tie
@@ -27,7 +27,7 @@ returns : tie.Need-returns invariant-loop decreases-loop
 returns c =
     let at-loop = c.before.before.before in
     let a = at-loop.before.args in (
-      searching-found a.sizes.now a.from a.most at-loop.loop.k c.before.before.loop-test.true c.if1.true at-loop.loop.invariant,
+      searching_found a.sizes.now a.from a.most at-loop.loop.k c.before.before.loop-test.true c.if1.true at-loop.loop.invariant,
       at-loop.loop.invariant.inside,
     )
 
@@ -41,12 +41,12 @@ loop-again : tie.Need-loop-preserved invariant-loop decreases-loop
 loop-again c =
     let at-loop = c.before.before.before in
     let a = at-loop.before.args in
-    searching-turn a.sizes.now a.from a.most at-loop.loop.k c.before.before.loop-test.true c.if1.false at-loop.loop.invariant
+    searching_turn a.sizes.now a.from a.most at-loop.loop.k c.before.before.loop-test.true c.if1.false at-loop.loop.invariant
 
 returns-2 : tie.Need-returns-2 invariant-loop decreases-loop
 returns-2 c =
     let a = c.before.before.args in
-    (searching-none a.sizes.now a.from a.most c.before.loop.k c.loop-test.false c.before.loop.invariant, c.before.loop.invariant.inside)
+    (searching_none a.sizes.now a.from a.most c.before.loop.k c.loop-test.false c.before.loop.invariant, c.before.loop.invariant.inside)
 
 pub first-within-spec : {M : Type 1} → statement M
 first-within-spec =

@@ -4,7 +4,7 @@ use Prim.Native.Nat.{◌+◌, ◌-◌, ◌≤◌}
 use native.Mathlib.Nat.{zero-add}
 use lib.ListN.{length, drop}
 use Rattle.claims.specs.Listing.{gapless}
-use Rattle.claims.proofs.ListingLaws.{gapless-more, gapless-stop, gapless-end}
+use Rattle.claims.proofs.ListingLaws.{gapless_more, gapless_stop, gapless_end}
 use borrow.Author.Rules.{rules}
 use native.Mathlib.Omega.{arith}
 use Rattle.claims.proofs.sizes.gapless_sizes.Statement.{statement}
@@ -28,7 +28,7 @@ shared-slice-read-if1 c = search rules
 returns : tie.Need-returns invariant-loop decreases-loop
 returns c =
     let at-loop = c.before.before.before in
-    let stop = gapless-stop at-loop.before.args.severity.now at-loop.loop.x c.before.before.loop-test.true c.if1.true in
+    let stop = gapless_stop at-loop.before.args.severity.now at-loop.loop.x c.before.before.loop-test.true c.if1.true in
     omega (arith, stop, at-loop.loop.invariant.1)
 
 add-x : tie.Need-overflow-add-x invariant-loop decreases-loop
@@ -40,12 +40,12 @@ loop-less c = search rules
 loop-again : tie.Need-loop-preserved invariant-loop decreases-loop
 loop-again c =
     let at-loop = c.before.before.before in
-    let more = gapless-more at-loop.before.args.severity.now at-loop.loop.x c.before.before.loop-test.true c.if1.false in
+    let more = gapless_more at-loop.before.args.severity.now at-loop.loop.x c.before.before.loop-test.true c.if1.false in
     (omega (arith, c.before.before.loop-test.true), omega (arith, more, at-loop.loop.invariant.1))
 
 returns-2 : tie.Need-returns-2 invariant-loop decreases-loop
 returns-2 c =
-    omega (arith, gapless-end c.before.before.args.severity.now c.before.loop.x c.loop-test.false, c.before.loop.invariant.1)
+    omega (arith, gapless_end c.before.before.args.severity.now c.before.loop.x c.loop-test.false, c.before.loop.invariant.1)
 
 pub gapless-sizes-spec : {M : Type 1} → statement M
 gapless-sizes-spec =

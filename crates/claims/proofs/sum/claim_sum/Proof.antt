@@ -5,9 +5,9 @@ use native.Mathlib.Omega.{arith}
 use lib.ListN.{length}
 use Rattle.model.specs.Scale.{S}
 use Rattle.model.specs.Sums.{sum}
-use Rattle.model.specs.FilledSizes.{filled-count}
-use Rattle.claims.specs.Listing.{sum-term}
-use Rattle.claims.proofs.SummingLaws.{Parted, parted, sizes-in, whole_sum, whole-fits}
+use Rattle.model.specs.FilledSizes.{filled_count}
+use Rattle.claims.specs.Listing.{sum_term}
+use Rattle.claims.proofs.SummingLaws.{Parted, parted, sizes_in, whole_sum, whole_fits}
 use Rattle.claims.proofs.sum.claim_sum.Statement.{statement}
 use Rattle.claims.proofs.sum.claim_sum.Tie as tie
 
@@ -45,13 +45,13 @@ parts c =
 fits :
     (c : tie.After-lesser2) →
     let a = (start (range c)).args in
-    sum (min (length a.after.now) (length a.severity.now)) (sum-term a.severity.now a.after.now) ≤ S * S
-fits c = let from = start (range c) in whole-fits from.args.severity.now from.args.after.now from.pre.1.0 from.pre.0
+    sum (min (length a.after.now) (length a.severity.now)) (sum_term a.severity.now a.after.now) ≤ S * S
+fits c = let from = start (range c) in whole_fits from.args.severity.now from.args.after.now from.pre.1.0 from.pre.0
 
 listed-sum-requires : tie.Need-listed-sum-requires
 listed-sum-requires c κs =
     let from = start (range c) in
-    (sizes-in from.args.severity.now from.args.sizes.now from.args.dense _ from.pre.1.1.0, omega (arith, (parts c).sums, fits c))
+    (sizes_in from.args.severity.now from.args.sizes.now from.args.dense _ from.pre.1.1.0, omega (arith, (parts c).sums, fits c))
 
 dense-sum-requires : tie.Need-dense-sum-requires
 dense-sum-requires c κs =
@@ -62,8 +62,8 @@ dense-sum-requires c κs =
 together :
     (c : tie.After-dense-sum) →
     let a = (start (range (divided (listed c)))).args in
-    ((listed c).listed-sum.result.sum + c.dense-sum.result.sum ≡ sum (min (length a.after.now) (length a.severity.now)) (sum-term a.severity.now a.after.now))
-    × ((listed c).listed-sum.result.products + c.dense-sum.result.products ≡ filled-count a.severity.now (length a.after.now + 1))
+    ((listed c).listed-sum.result.sum + c.dense-sum.result.sum ≡ sum (min (length a.after.now) (length a.severity.now)) (sum_term a.severity.now a.after.now))
+    × ((listed c).listed-sum.result.products + c.dense-sum.result.products ≡ filled_count a.severity.now (length a.after.now + 1))
 together c =
     let all = parts (divided (listed c)) in (
       ap₂ (λ (a b : ℕ). a + b) (listed c).listed-sum.ensures.0 c.dense-sum.ensures.0 ∙ all.sums,

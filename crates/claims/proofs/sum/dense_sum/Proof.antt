@@ -6,13 +6,13 @@ use native.Mathlib.Omega.{arith}
 use lib.ListN.{length}
 use Rattle.model.specs.Scale.{S}
 use Rattle.model.specs.Plan.{nth}
-use Rattle.claims.specs.Listing.{sum-term}
-use Rattle.claims.proofs.SummingLaws.{DownSumming, down-summing-turn, down-summing-end}
+use Rattle.claims.specs.Listing.{sum_term}
+use Rattle.claims.proofs.SummingLaws.{DownSumming, down_summing_turn, down_summing_end}
 use Rattle.claims.proofs.sum.dense_sum.Statement.{statement}
 use Rattle.claims.proofs.sum.dense_sum.Tie as tie
 
 abbrev invariant-loop : tie.invariant-loop
-invariant-loop severity after most sum₀ products₀ x₀ sum products x = DownSumming (sum-term severity after) most sum products x
+invariant-loop severity after most sum₀ products₀ x₀ sum products x = DownSumming (sum_term severity after) most sum products x
 
 abbrev decreases-loop : tie.decreases-loop
 decreases-loop severity after most sum₀ products₀ x₀ sum products x = x
@@ -68,14 +68,14 @@ added :
     let at-loop = (turn (weight c)).before in
     let a = (start at-loop).args in
     let sum = at-loop.loop.sum + (weight c).wide.result * c.wide2.result in
-    (sum ≤ S * S) × DownSumming (sum-term a.severity.now a.after.now) a.most sum (at-loop.loop.products + 1) (at-loop.loop.x - 1)
+    (sum ≤ S * S) × DownSumming (sum_term a.severity.now a.after.now) a.most sum (at-loop.loop.products + 1) (at-loop.loop.x - 1)
 unfolding nth
 added c =
     let at_turn = turn (weight c) in
     let loop = at_turn.before.loop in
     let from = start at_turn.before in
     let more =
-    down-summing-turn (sum-term from.args.severity.now from.args.after.now) from.args.most loop.sum loop.products loop.x _
+    down_summing_turn (sum_term from.args.severity.now from.args.after.now) from.args.most loop.sum loop.products loop.x _
     at_turn.loop-test.taken (ap₂ (λ (w v : ℕ). w * v) (weight c).wide.ensures c.wide2.ensures) loop.inv in
     (le_trans more.0 from.pre.1, more.1)
 
@@ -100,7 +100,7 @@ returns : tie.Need-returns invariant-loop decreases-loop
 returns c =
     let at-loop = c.before in
     let a = (start at-loop).args in
-    down-summing-end (sum-term a.severity.now a.after.now) a.most at-loop.loop.sum at-loop.loop.products at-loop.loop.x
+    down_summing_end (sum_term a.severity.now a.after.now) a.most at-loop.loop.sum at-loop.loop.products at-loop.loop.x
     c.loop-test.false at-loop.loop.invariant
 
 pub dense-sum-spec : {M : Type 1} → statement M

@@ -4,13 +4,13 @@ use native.Mathlib.Nat.{zero-add, le_trans}
 use native.Mathlib.Omega.{arith}
 use lib.ListN.{length, get_or}
 use Rattle.model.specs.Scale.{S}
-use Rattle.claims.specs.Listing.{sum-term}
-use Rattle.claims.proofs.SummingLaws.{product-read, ListSumming, list-summing-turn, list-summing-end}
+use Rattle.claims.specs.Listing.{sum_term}
+use Rattle.claims.proofs.SummingLaws.{product_read, ListSumming, list_summing_turn, list_summing_end}
 use Rattle.claims.proofs.sum.listed_sum.Statement.{statement}
 use Rattle.claims.proofs.sum.listed_sum.Tie as tie
 
 abbrev invariant-loop : tie.invariant-loop
-invariant-loop severity sizes after sum₀ k₀ sum k = ListSumming (sum-term severity after) sizes sum k
+invariant-loop severity sizes after sum₀ k₀ sum k = ListSumming (sum_term severity after) sizes sum k
 
 abbrev decreases-loop : tie.decreases-loop
 decreases-loop severity sizes after sum₀ k₀ sum k = length sizes - k
@@ -71,15 +71,15 @@ added :
     let at-loop = (turn (weight c)).before in
     let a = (start at-loop).args in
     let sum = at-loop.loop.sum + (weight c).wide.result * c.wide2.result in
-    (sum ≤ S * S) × ListSumming (sum-term a.severity.now a.after.now) a.sizes.now sum (at-loop.loop.k + 1)
+    (sum ≤ S * S) × ListSumming (sum_term a.severity.now a.after.now) a.sizes.now sum (at-loop.loop.k + 1)
 added c =
     let at_turn = turn (weight c) in
     let loop = at_turn.before.loop in
     let from = start at_turn.before in
     let a = from.args in
     let more =
-    list-summing-turn (sum-term a.severity.now a.after.now) a.sizes.now loop.sum loop.k _ at_turn.loop-test.taken
-    (product-read a.severity.now a.after.now _ _ _ (inside at_turn).0 (weight c).wide.ensures c.wide2.ensures) loop.inv in
+    list_summing_turn (sum_term a.severity.now a.after.now) a.sizes.now loop.sum loop.k _ at_turn.loop-test.taken
+    (product_read a.severity.now a.after.now _ _ _ (inside at_turn).0 (weight c).wide.ensures c.wide2.ensures) loop.inv in
     (le_trans more.0 from.pre.1, more.1)
 
 mul-sum : tie.Need-overflow-mul-sum invariant-loop decreases-loop
@@ -103,7 +103,7 @@ returns : tie.Need-returns invariant-loop decreases-loop
 returns c =
     let at-loop = c.before in
     let a = (start at-loop).args in
-    list-summing-end (sum-term a.severity.now a.after.now) a.sizes.now at-loop.loop.sum at-loop.loop.k c.loop-test.false at-loop.loop.invariant
+    list_summing_end (sum_term a.severity.now a.after.now) a.sizes.now at-loop.loop.sum at-loop.loop.k c.loop-test.false at-loop.loop.invariant
 
 pub listed-sum-spec : {M : Type 1} → statement M
 listed-sum-spec =

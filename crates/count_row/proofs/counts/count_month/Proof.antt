@@ -1,4 +1,4 @@
--- `count_month` meets its contract. The invariant: the places above k are new and the others old (`new-from`).
+-- `count_month` meets its contract. The invariant: the places above k are new and the others old (`new_from`).
 use mathlib.Core.Path.{◌≡◌, refl, sym, ap, ◌∙◌}
 use mathlib.Core.List.{List}
 use Prim.Native.Nat.{ℕ, ◌+◌, ◌-◌, ◌<◌, ◌≤◌}
@@ -6,14 +6,14 @@ use native.Mathlib.Omega.{arith}
 use lib.ListN.{length, get_or, length-set}
 use Rattle.model.specs.declared.Rounding.{Rounding}
 use Rattle.model.specs.Scale.{S}
-use Rattle.count_row.proofs.CountLaws.{new-from, new-from-start, new-from-turn, new-from-end, new-from-below, place-value, first-value}
+use Rattle.count_row.proofs.CountLaws.{new_from, new_from_start, new_from_turn, new_from_end, new_from_below, place_value, first_value}
 use Rattle.count_row.proofs.counts.count_month.Statement.{statement}
 use Rattle.count_row.proofs.counts.count_month.Tie as tie
 
 record Inv (old : List ℕ) (round : Rounding) (P : ℕ) (row : List ℕ) (k : ℕ) : Type 0 where
   within : k < length old
   same_length : length row ≡ length old
-  so_far : row ≡ new-from old round P (k + 1)
+  so_far : row ≡ new_from old round P (k + 1)
 
 abbrev invariant-loop : tie.invariant-loop
 invariant-loop row₀ chance round k₀ row k = Inv row₀ round chance row k
@@ -28,7 +28,7 @@ loop-holds : tie.Need-loop-init invariant-loop decreases-loop
 loop-holds c =
     let a = c.before.args in
     let all : length a.row.now - 1 + 1 ≡ length a.row.now = omega arith in
-    record { within = omega arith; same_length = refl; so_far = rw all (sym (new-from-start a.row.now a.round a.chance)) }
+    record { within = omega arith; same_length = refl; so_far = rw all (sym (new_from_start a.row.now a.round a.chance)) }
 
 -- the places at the calls and the loop, each from the next
 abbrev start : tie.At-loop invariant-loop decreases-loop → tie.Start invariant-loop decreases-loop
@@ -44,7 +44,7 @@ ended c = c.before
 old-part : (c : tie.At-loop invariant-loop decreases-loop) (i : ℕ) → i ≤ c.loop.k → get_or c.loop.row i 0 ≤ S
 old-part c i l =
     let a = (start c).args in
-    rw (new-from-below a.row.now a.round a.chance c.loop.row c.loop.k i c.loop.invariant.within c.loop.invariant.so_far l) ((start c).requires.1.each i)
+    rw (new_from_below a.row.now a.round a.chance c.loop.row c.loop.k i c.loop.invariant.within c.loop.invariant.so_far l) ((start c).requires.1.each i)
 
 mul-mixture : tie.Need-overflow-mul-mixture invariant-loop decreases-loop
 mul-mixture c = omega (arith, c.before.loop.invariant.within)
@@ -91,8 +91,8 @@ loop-again c =
       same_length = simp length-set loop.inv.same_length;
       so_far =
           rw back
-          (new-from-turn old a.round a.chance loop.row loop.k c.mixture.result loop.inv.within loop.inv.so_far
-          (place-value old a.round a.chance loop.row loop.k c.mixture.result (omega arith) loop.inv.within loop.inv.so_far c.mixture.ensures));
+          (new_from_turn old a.round a.chance loop.row loop.k c.mixture.result loop.inv.within loop.inv.so_far
+          (place_value old a.round a.chance loop.row loop.k c.mixture.result (omega arith) loop.inv.within loop.inv.so_far c.mixture.ensures));
     }
 
 slice-read-mixture-3 : tie.Need-slice-read-mixture-3 invariant-loop decreases-loop
@@ -112,15 +112,15 @@ same_length c = simp length-set (ended c.before).before.loop.inv.same_length
 
 returns : tie.Need-returns invariant-loop decreases-loop
 returns c =
-    let at-end = ended c.before in
-    let loop = at-end.before.loop in
-    let a = (start at-end.before).args in
+    let at_end = ended c.before in
+    let loop = at_end.before.loop in
+    let a = (start at_end.before).args in
     let old = a.row.now in
-    let first : loop.k ≡ 0 = omega (arith, at-end.loop-test.left) in
-    let row : loop.row ≡ new-from old a.round a.chance 1 = loop.inv.so_far ∙ ap (λ k. new-from old a.round a.chance (k + 1)) first in
-    new-from-turn old a.round a.chance loop.row 0 c.mixture2.result (omega (arith, loop.inv.within)) row
-    (first-value old a.round a.chance loop.row c.mixture2.result (omega (arith, loop.inv.within)) row c.mixture2.ensures)
-    ∙ new-from-end old a.round a.chance
+    let first : loop.k ≡ 0 = omega (arith, at_end.loop-test.left) in
+    let row : loop.row ≡ new_from old a.round a.chance 1 = loop.inv.so_far ∙ ap (λ k. new_from old a.round a.chance (k + 1)) first in
+    new_from_turn old a.round a.chance loop.row 0 c.mixture2.result (omega (arith, loop.inv.within)) row
+    (first_value old a.round a.chance loop.row c.mixture2.result (omega (arith, loop.inv.within)) row c.mixture2.ensures)
+    ∙ new_from_end old a.round a.chance
 
 pub count-month-spec : {M : Type 1} → statement M
 count-month-spec =

@@ -2,7 +2,7 @@
 use Prim.Native.Nat.{◌≤◌, ◌-◌}
 use native.Mathlib.Omega.{arith}
 use lib.ListN.{length}
-use Rattle.count_row.proofs.CountLaws.{Counting, counting-rows-start, counting-rows-turn, counting-rows-end}
+use Rattle.count_row.proofs.CountLaws.{Counting, counting_rows_start, counting_rows_turn, counting_rows_end}
 use Rattle.count_row.proofs.counts.count_rows.Statement.{statement}
 use Rattle.count_row.proofs.counts.count_rows.Tie as tie
 
@@ -16,7 +16,7 @@ first-rows-requires : tie.Need-first-rows-requires invariant-loop decreases-loop
 first-rows-requires c κs = tt
 
 loop-holds : tie.Need-loop-init invariant-loop decreases-loop
-loop-holds c = (omega arith, rw c.first_rows.ensures (counting-rows-start c.before.before.args.chances.now))
+loop-holds c = (omega arith, rw c.first_rows.ensures (counting_rows_start c.before.before.args.chances.now))
 
 -- the places at the calls and the loop, each from the next
 abbrev start : tie.At-loop invariant-loop decreases-loop → tie.Start invariant-loop decreases-loop
@@ -48,13 +48,13 @@ loop-again c =
     let loop = at-loop.loop in
     let from = start at-loop in (
       omega arith,
-      rw c.month.ensures (counting-rows-turn from.args.chances.now from.pre loop.row loop.t (omega arith) loop.inv.1),
+      rw c.month.ensures (counting_rows_turn from.args.chances.now from.pre loop.row loop.t (omega arith) loop.inv.1),
     )
 
 returns : tie.Need-returns invariant-loop decreases-loop
 returns c =
     let loop = c.before.loop in
-    counting-rows-end (start c.before).args.chances.now loop.row loop.t (omega arith) loop.invariant.1
+    counting_rows_end (start c.before).args.chances.now loop.row loop.t (omega arith) loop.invariant.1
 
 pub count-rows-spec : {M : Type 1} → statement M
 count-rows-spec =

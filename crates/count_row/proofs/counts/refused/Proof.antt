@@ -1,11 +1,11 @@
 -- `refused` meets its contract, by computation.
 use mathlib.Core.Path.{refl}
-use Rattle.count_row.specs.Answers.{count-refused}
+use Rattle.count_row.specs.Answers.{count_refused}
 use Rattle.count_row.proofs.counts.refused.Statement.{statement}
 use Rattle.count_row.proofs.counts.refused.Tie as tie
 
 returns : tie.Need-returns
-unfolding count-refused
+unfolding count_refused
 returns c = refl
 
 pub refused-spec : {M : Type 1} → statement M

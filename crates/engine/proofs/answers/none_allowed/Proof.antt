@@ -5,7 +5,7 @@ use native.Mathlib.Omega.{arith}
 use borrow.Author.Rules.{rules}
 use lib.ListN.{drop, replicate, length-take}
 use lib.Seq.{length-take-le}
-use Rattle.engine.specs.Answers.{bounds-answer}
+use Rattle.engine.specs.Answers.{bounds_answer}
 use Rattle.engine.proofs.answers.none_allowed.Statement.{statement}
 use Rattle.engine.proofs.answers.none_allowed.Tie as tie
 
@@ -22,7 +22,7 @@ same_length : tie.Need-same-length
 same_length c = search rules
 
 returns : tie.Need-returns
-unfolding bounds-answer
+unfolding bounds_answer
 returns c =
     let at_fill_lem = c.before.before in
     let s = at_fill_lem.before.before.before in

@@ -8,8 +8,8 @@ use lib.ListN.{drop, replicate, length-take}
 use lib.Seq.{length-take-le}
 use Rattle.model.specs.declared.Rounding.TheVariants.{Down, Up}
 use Rattle.model.proofs.Facts.{Facts, facts}
-use Rattle.month_rows.specs.Shapes.{rows-size}
-use Rattle.engine.proofs.AnswerLaws.{answer-worked, terms-lent, levels-fit, last-lent, value_lent}
+use Rattle.month_rows.specs.Shapes.{rows_size}
+use Rattle.engine.proofs.AnswerLaws.{answer_worked, terms_lent, levels_fit, last_lent, value_lent}
 use Rattle.engine.proofs.answers.work_out.Statement.{statement}
 use Rattle.engine.proofs.answers.work_out.Tie as tie
 
@@ -42,7 +42,7 @@ slice-aggregate-bounds-from-2 : tie.Need-slice-aggregate-bounds-from-2
 slice-aggregate-bounds-from-2 c = simp length-take (omega (arith, (known (measured c.before.before)).row_is, (measured c.before.before).requires.1.0.within))
 
 mul-bounds-from : tie.Need-overflow-mul-bounds-from
-mul-bounds-from c = omega (arith, (known (measured c.before.before)).head.months-fit)
+mul-bounds-from c = omega (arith, (known (measured c.before.before)).head.months_fit)
 
 sub-bounds-from : tie.Need-overflow-sub-bounds-from
 sub-bounds-from c = search rules
@@ -65,14 +65,14 @@ bounds-from-requires c κs =
     let a = s.args in
     let w = s.pre.1.0 in (
       (
-        length-take-le (2 * rows-size a.shape) a.workspace.now w.enough,
-        rw w.earns (levels-fit a.head a.row.now (known s).row_is a.months a.shape.width w.within w.wide),
+        length-take-le (2 * rows_size a.shape) a.workspace.now w.enough,
+        rw w.earns (levels_fit a.head a.row.now (known s).row_is a.months a.shape.width w.within w.wide),
       ),
       (
-        (rw w.earns (known s).head.income-some, rw w.earns (known s).head.income-fits),
+        (rw w.earns (known s).head.income_some, rw w.earns (known s).head.income_fits),
         (
-          terms-lent a.head a.row.now (known s) a.months,
-          last-lent a.last a.shape a.head a.row.now s.pre.1.1,
+          terms_lent a.head a.row.now (known s) a.months,
+          last_lent a.last a.shape a.head a.row.now s.pre.1.1,
         ),
       ),
     )
@@ -87,11 +87,11 @@ returns c =
     let s = lent at_call.before.before in
     let a = s.args in
     let w = s.pre.1.0 in
-    let count = length-take-le (2 * rows-size a.shape) a.workspace.now w.enough in (
-      answer-worked call.result.lower call.result.upper _ _
+    let count = length-take-le (2 * rows_size a.shape) a.workspace.now w.enough in (
+      answer_worked call.result.lower call.result.upper _ _
           (value_lent Down a.head a.row.now a.months a.shape w.earns a.last call.result.lower w.within call.ensures.0)
           (value_lent Up a.head a.row.now a.months a.shape w.earns a.last call.result.upper w.within call.ensures.1.0),
-      ap (λ front. front ++ drop (2 * rows-size a.shape) a.workspace.now) (call.ensures.1.1 ∙ ap (λ n. replicate n 0) count),
+      ap (λ front. front ++ drop (2 * rows_size a.shape) a.workspace.now) (call.ensures.1.1 ∙ ap (λ n. replicate n 0) count),
     )
 
 pub work-out-spec : {M : Type 1} → statement M

@@ -7,10 +7,10 @@ use native.Mathlib.Nat.{le_trans}
 use native.Mathlib.Omega.{arith}
 use lib.ListN.{length, length-take}
 use Rattle.model.specs.declared.Rounding.{Rounding}
-use Rattle.claims.proofs.ListingLaws.{listing-take}
+use Rattle.claims.proofs.ListingLaws.{listing_take}
 use Rattle.month_rows.specs.Rows.{MonthTerms}
 use Rattle.month_rows.proofs.ManyRows.{row_fits}
-use Rattle.month_rows.proofs.OneMonth.{rows_before, rows_left, own-sizes-le, total-take-le, GoingBack, going-back-start, going-back-turn, going-back-end, going-back-done, going-back-beyond}
+use Rattle.month_rows.proofs.OneMonth.{rows_before, rows_left, own_sizes_le, total_take_le, GoingBack, going_back_start, going_back_turn, going_back_end, going_back_done, going_back_beyond}
 use Rattle.month_rows.proofs.rows.all_rows_back.Statement.{statement}
 use Rattle.month_rows.proofs.rows.all_rows_back.Tie as tie
 
@@ -42,7 +42,7 @@ loop-holds c =
     record {
       within = omega arith;
       levels = omega arith;
-      back = going-back-start _ from.args.shape.width _ _ from.args.rows.now from.requires.0.parts;
+      back = going_back_start _ from.args.shape.width _ _ from.args.rows.now from.requires.0.parts;
     }
 
 -- the places at the calls and the loop, each from the next
@@ -94,7 +94,7 @@ row-back-requires : tie.Need-row-back-requires invariant-loop decreases-loop
 row-back-requires c κs =
     let inv = (turn c).before.loop.invariant in
     let from = start (turn c).before in
-    ((omega arith, omega (arith, inv.levels, from.pre.0.income-some), omega (arith, fits (turn c), inv.back.same_length)), (inv.back.parts, from.pre.1.1))
+    ((omega arith, omega (arith, inv.levels, from.pre.0.income_some), omega (arith, fits (turn c), inv.back.same_length)), (inv.back.parts, from.pre.1.1))
 
 add-j : tie.Need-overflow-add-j invariant-loop decreases-loop
 add-j c = omega arith
@@ -113,7 +113,7 @@ loop-again c =
       within = omega (arith, at_turn.loop-test.taken);
       levels = loop.inv.levels;
       back =
-          going-back-turn _ a.shape.width a.shape.tallied a.shape.income from.pre.0.income-some a.top _ loop.inv.levels from.pre.1.0.inside a.rows.now a.severity.now a.chance
+          going_back_turn _ a.shape.width a.shape.tallied a.shape.income from.pre.0.income_some a.top _ loop.inv.levels from.pre.1.0.inside a.rows.now a.severity.now a.chance
           a.round loop.rows loop.j at_turn.loop-test.taken loop.inv.back call.new.0 call.auto.0 call.ensures.1 call.ensures.0;
     }
 
@@ -124,11 +124,11 @@ own-sizes-requires : tie.Need-own-sizes-requires invariant-loop decreases-loop
 own-sizes-requires c κs = tt
 
 -- the sizes of the last row are some of the table's
-own-fits : (c : tie.After-own-sizes invariant-loop decreases-loop) → c.own-sizes.result ≤ length (start (ended c).before).args.severity.now
-own-fits c = let a = (start (ended c).before).args in omega (arith, c.own-sizes.ensures, own-sizes-le a.shape.tallied (length a.severity.now))
+own_fits : (c : tie.After-own-sizes invariant-loop decreases-loop) → c.own_sizes.result ≤ length (start (ended c).before).args.severity.now
+own_fits c = let a = (start (ended c).before).args in omega (arith, c.own_sizes.ensures, own_sizes_le a.shape.tallied (length a.severity.now))
 
 slice-aggregate-row-back : tie.Need-slice-aggregate-row-back invariant-loop decreases-loop
-slice-aggregate-row-back c = simp length-take (omega (arith, own-fits (sized c)))
+slice-aggregate-row-back c = simp length-take (omega (arith, own_fits (sized c)))
 
 row-back-requires-2 : tie.Need-row-back-requires-2 invariant-loop decreases-loop
 row-back-requires-2 c κs =
@@ -137,11 +137,11 @@ row-back-requires-2 c κs =
     let from = start (ended at-sizes).before in
     let own : MonthTerms _ from.args.sizes.now from.args.dense from.args.chance =
     record {
-      listing = listing-take from.args.severity.now from.args.sizes.now from.args.dense at-sizes.own-sizes.result (own-fits at-sizes) from.pre.1.1.listing;
-      weights-fit = le_trans (total-take-le at-sizes.own-sizes.result from.args.severity.now) from.pre.1.1.weights-fit;
-      chance-fits = from.pre.1.1.chance-fits;
+      listing = listing_take from.args.severity.now from.args.sizes.now from.args.dense at-sizes.own_sizes.result (own_fits at-sizes) from.pre.1.1.listing;
+      weights_fit = le_trans (total_take_le at-sizes.own_sizes.result from.args.severity.now) from.pre.1.1.weights_fit;
+      chance_fits = from.pre.1.1.chance_fits;
     } in
-    ((omega arith, omega (arith, inv.levels, from.pre.0.income-some), omega (arith, last_fits (ended at-sizes), inv.back.same_length)), (inv.back.parts, own))
+    ((omega arith, omega (arith, inv.levels, from.pre.0.income_some), omega (arith, last_fits (ended at-sizes), inv.back.same_length)), (inv.back.parts, own))
 
 done :
     (c : tie.After-row-back2 invariant-loop decreases-loop) →
@@ -152,12 +152,12 @@ done :
 done c =
     let call = c.row-back2 in
     let at-sizes = sized c.before in
-    let own = at-sizes.own-sizes in
+    let own = at-sizes.own_sizes in
     let loop = (ended at-sizes).before.loop in
     let from = start (ended at-sizes).before in
     let a = from.args in
     let here : loop.j ≡ a.shape.rows - 1 = omega (arith, loop.inv.within, (ended at-sizes).loop-test.left) in
-    going-back-end _ a.shape.width a.shape.tallied a.shape.income from.pre.0.income-some a.top _ loop.inv.levels from.pre.1.0.inside a.rows.now a.severity.now a.chance a.round
+    going_back_end _ a.shape.width a.shape.tallied a.shape.income from.pre.0.income_some a.top _ loop.inv.levels from.pre.1.0.inside a.rows.now a.severity.now a.chance a.round
     loop.rows loop.j here loop.inv.back own.result own.ensures call.new.0 call.auto.0 call.ensures.1 call.ensures.0
 
 same_length : tie.Need-same-length invariant-loop decreases-loop
@@ -172,11 +172,11 @@ returns c =
     let a = from.args in
     let whole : (k : ℕ) → k < a.shape.rows → k ≤ a.shape.rows - 1 = λ k l. omega arith in (
       (λ k l.
-          going-back-done _ a.shape.width a.shape.tallied a.shape.income from.pre.0.income-some a.top _ inv.levels from.pre.1.0.inside a.rows.now a.severity.now a.chance a.round _ _
+          going_back_done _ a.shape.width a.shape.tallied a.shape.income from.pre.0.income_some a.top _ inv.levels from.pre.1.0.inside a.rows.now a.severity.now a.chance a.round _ _
           (omega arith) (done at_call) k (whole k l)),
       (
         (λ k l.
-            going-back-beyond _ a.shape.width a.shape.tallied a.shape.income from.pre.0.income-some a.top _ inv.levels from.pre.1.0.inside a.rows.now a.severity.now a.chance a.round _ _
+            going_back_beyond _ a.shape.width a.shape.tallied a.shape.income from.pre.0.income_some a.top _ inv.levels from.pre.1.0.inside a.rows.now a.severity.now a.chance a.round _ _
             (omega arith) (done at_call) k (whole k l)),
         (done at_call).parts,
       ),

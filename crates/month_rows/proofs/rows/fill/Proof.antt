@@ -4,7 +4,7 @@ use Prim.Native.Nat.{◌-◌, ◌<◌}
 use native.Mathlib.Omega.{arith}
 use borrow.Author.Fill.{fill_more}
 use lib.ListN.{length, length-set}
-use Rattle.month_rows.proofs.RowLaws.{FilledTo, filled-to-end}
+use Rattle.month_rows.proofs.RowLaws.{FilledTo, filled_to_end}
 use Rattle.month_rows.proofs.rows.fill.Statement.{statement}
 use Rattle.month_rows.proofs.rows.fill.Tie as tie
 
@@ -50,7 +50,7 @@ returns : tie.Need-returns invariant-loop decreases-loop
 returns c =
     let loop = c.before.loop in
     let a = c.before.before.args in
-    filled-to-end a.part.now a.value loop.part loop.k c.loop-test.false loop.invariant
+    filled_to_end a.part.now a.value loop.part loop.k c.loop-test.false loop.invariant
 
 pub fill_spec : {M : Type 1} → statement M
 fill_spec =

@@ -2,7 +2,7 @@
 use Prim.Native.Nat.{◌+◌, ◌*◌, ◌-◌, ◌≤◌}
 use native.Mathlib.Omega.{arith}
 use lib.ListN.{length}
-use Rattle.month_rows.proofs.ManyRows.{row_fits, Forbidding, forbidding-start, forbidding-turn, forbidden-in}
+use Rattle.month_rows.proofs.ManyRows.{row_fits, Forbidding, forbidding_start, forbidding_turn, forbidden_in}
 use Rattle.month_rows.proofs.rows.forbid_rows.Statement.{statement}
 use Rattle.month_rows.proofs.rows.forbid_rows.Tie as tie
 
@@ -27,7 +27,7 @@ difference-requires-2 c κs = tt
 loop-holds : tie.Need-loop-init invariant-loop decreases-loop
 loop-holds c =
     let from = c.before.before.before in
-    (omega arith, forbidding-start from.args.rows.now from.args.shape.width _ _ from.requires.0.parts)
+    (omega arith, forbidding_start from.args.rows.now from.args.shape.width _ _ from.requires.0.parts)
 
 abbrev start : tie.At-loop invariant-loop decreases-loop → tie.Start invariant-loop decreases-loop
 start c = c.before.before.before.before
@@ -76,7 +76,7 @@ loop-again c =
     let from = start turn.before in
     let width = from.args.shape.width in (
       omega arith,
-      forbidding-turn from.args.rows.now from.args.shape.rows width _ _ from.pre.0.size loop.rows forbid.new.0 loop.j
+      forbidding_turn from.args.rows.now from.args.shape.rows width _ _ from.pre.0.size loop.rows forbid.new.0 loop.j
           (loop.j * width + width - loop.j * width) (omega arith) turn.loop-test.true loop.invariant.1 forbid.auto.0 forbid.ensures,
     )
 
@@ -87,7 +87,7 @@ returns : tie.Need-returns invariant-loop decreases-loop
 returns c =
     let inv = c.before.loop.invariant in
     let from = start c.before in (
-      forbidden-in from.args.shape from.args.top from.args.rows.now _ _ _ _ c.loop-test.false
+      forbidden_in from.args.shape from.args.top from.args.rows.now _ _ _ _ c.loop-test.false
           c.before.before.before.difference.ensures c.before.before.difference2.ensures inv.1,
       inv.1.parts,
     )

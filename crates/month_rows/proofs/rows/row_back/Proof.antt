@@ -6,13 +6,13 @@ use native.Mathlib.Omega.{arith}
 use lib.ListN.{length, take, drop}
 use lib.Seq.{get_or-drop}
 use Rattle.model.specs.Scale.{S}
-use Rattle.model.specs.MonthRule.{claim-sum}
-use Rattle.model.proofs.Month.{claim-sum-fits, value-fits}
-use Rattle.claims.specs.Values.{from-top}
+use Rattle.model.specs.MonthRule.{claim_sum}
+use Rattle.model.proofs.Month.{claim_sum_fits, value_fits}
+use Rattle.claims.specs.Values.{from_top}
 use Rattle.claims.specs.Listing.{ListsRange}
-use Rattle.claims.proofs.ListingLaws.{ListedFrom, listed-from-start, listed-from-turn, listed-part}
+use Rattle.claims.proofs.ListingLaws.{ListedFrom, listed_from_start, listed_from_turn, listed_part}
 use Rattle.month_rows.proofs.ValueLaws.{whole_again}
-use Rattle.month_rows.proofs.RowLaws.{parts-part, length_part, row_before, Rewriting, rewriting-start, rewriting-turn, sum-beyond, value_before}
+use Rattle.month_rows.proofs.RowLaws.{parts_part, length_part, row_before, Rewriting, rewriting_start, rewriting_turn, sum_beyond, value_before}
 use Rattle.month_rows.proofs.rows.row_back.Statement.{statement}
 use Rattle.month_rows.proofs.rows.row_back.Tie as tie
 
@@ -31,8 +31,8 @@ loop-holds c =
     let from = c.before.before.before in
     let a = from.args in (
       omega arith,
-      rewriting-start a.rows.now a.quiet _ from.requires.1.0,
-      listed-from-start a.severity.now a.sizes.now a.dense _ (omega arith) from.requires.1.1.listing,
+      rewriting_start a.rows.now a.quiet _ from.requires.1.0,
+      listed_from_start a.severity.now a.sizes.now a.dense _ (omega arith) from.requires.1.1.listing,
     )
 
 -- the places at the loop and the calls, each from the next
@@ -87,7 +87,7 @@ listed c =
     let most = c.before.lesser.ensures in
     let a = (start (at-loop (turn c))).args in
     let loop = (at-loop (turn c)).loop in
-    listed-from-turn a.severity.now a.sizes.now a.dense _ loop.first c.before.lesser.result c.first-within.result _ (omega (arith, most)) (omega (arith, most))
+    listed_from_turn a.severity.now a.sizes.now a.dense _ loop.first c.before.lesser.result c.first-within.result _ (omega (arith, most)) (omega (arith, most))
     c.first-within.ensures.0 c.first-within.ensures.1 loop.inv.2
 
 mul-claim-sum : tie.Need-overflow-mul-claim-sum invariant-loop decreases-loop
@@ -125,34 +125,34 @@ claim-sum-requires c κs =
     let size = length_part loop.rows next end (omega (arith, inside (turn at-range))) (inside (turn at-range)).1 in
     let most : at-range.before.lesser.result ≡ min (length (take (end - next) (drop next loop.rows))) (length a.severity.now) =
     omega (arith, at-range.before.lesser.ensures, size) in
-    let range = listed-part a.severity.now a.sizes.now a.dense at-range.first-within.result at-range.before.lesser.result _ (listed at-range).0 most in
-    (parts-part loop.rows next (end - next) loop.inv.1.parts, (from.pre.1.1.weights-fit, (range, from.pre.1.1.listing.no_gap)))
+    let range = listed_part a.severity.now a.sizes.now a.dense at-range.first-within.result at-range.before.lesser.result _ (listed at-range).0 most in
+    (parts_part loop.rows next (end - next) loop.inv.1.parts, (from.pre.1.1.weights_fit, (range, from.pre.1.1.listing.no_gap)))
 
 -- the claim sum of a turn, from its quotient and what is left over
 abbrev whole : tie.After-claim-sum invariant-loop decreases-loop → ℕ
-whole c = c.claim-sum.result.quotient * S + c.claim-sum.result.remainder
+whole c = c.claim_sum.result.quotient * S + c.claim_sum.result.remainder
 
 -- … is over the old row, and fits
 sum_is :
     (c : tie.After-claim-sum invariant-loop decreases-loop) →
     let a = (start (at-loop (summed c))).args in
-    whole c ≡ claim-sum a.severity.now (from-top a.top (drop a.claimed a.rows.now)) (a.top - (at-loop (summed c)).loop.i)
+    whole c ≡ claim_sum a.severity.now (from_top a.top (drop a.claimed a.rows.now)) (a.top - (at-loop (summed c)).loop.i)
 sum_is c =
     let from = start (at-loop (summed c)) in
     let a = from.args in
     let loop = (at-loop (summed c)).loop in
-    sum-beyond a.rows.now a.severity.now a.quiet a.claimed a.top a.live a.chance a.round from.pre.0.0 from.pre.0.1
+    sum_beyond a.rows.now a.severity.now a.quiet a.claimed a.top a.live a.chance a.round from.pre.0.0 from.pre.0.1
     loop.rows loop.i (omega arith) (inside (summed c)).1 loop.inv.1 _ _ refl refl _
-    (whole_again _ _ _ c.claim-sum.ensures.0 c.claim-sum.ensures.1.0).0
+    (whole_again _ _ _ c.claim_sum.ensures.0 c.claim_sum.ensures.1.0).0
 
 sum_fits : (c : tie.After-claim-sum invariant-loop decreases-loop) → whole c ≤ S * S
 sum_fits c =
     let from = start (at-loop (summed c)) in
     rw (sum_is c)
-    (claim-sum-fits from.args.severity.now _ from.pre.1.1.weights-fit (λ s. rw get_or-drop (from.pre.1.0.each _)) _)
+    (claim_sum_fits from.args.severity.now _ from.pre.1.1.weights_fit (λ s. rw get_or-drop (from.pre.1.0.each _)) _)
 
-left-fits : (c : tie.After-claim-sum invariant-loop decreases-loop) → c.claim-sum.result.remainder < S
-left-fits c = (whole_again _ _ _ c.claim-sum.ensures.0 c.claim-sum.ensures.1.0).1
+left_fits : (c : tie.After-claim-sum invariant-loop decreases-loop) → c.claim_sum.result.remainder < S
+left_fits c = (whole_again _ _ _ c.claim_sum.ensures.0 c.claim_sum.ensures.1.0).1
 
 add-place : tie.Need-overflow-add-place invariant-loop decreases-loop
 add-place c = omega (arith, inside (summed c))
@@ -167,7 +167,7 @@ month-value-requires : tie.Need-month-value-requires invariant-loop decreases-lo
 month-value-requires c κs =
     let from = start (at-loop (summed c.before)) in
     let loop = (at-loop (summed c.before)).loop in
-    (from.pre.1.1.chance-fits, loop.inv.1.parts.each _, sum_fits c.before, left-fits c.before)
+    (from.pre.1.1.chance_fits, loop.inv.1.parts.each _, sum_fits c.before, left_fits c.before)
 
 mul-rows : tie.Need-overflow-mul-rows invariant-loop decreases-loop
 mul-rows c = omega (arith, inside (summed c.before.before))
@@ -189,11 +189,11 @@ loop-again c =
     let here = (summed read).loop-test.true in
     let a = from.args in (
       omega (arith, here),
-      rewriting-turn a.rows.now a.quiet _ loop.rows loop.i c.month-value.result loop.inv.1 (omega (arith, inside (summed read)))
+      rewriting_turn a.rows.now a.quiet _ loop.rows loop.i c.month-value.result loop.inv.1 (omega (arith, inside (summed read)))
           (value_before a.rows.now a.severity.now a.quiet a.claimed a.top a.live a.chance a.round from.pre.0.0 from.pre.0.1
           loop.i _ (whole read) here (loop.inv.1.so_far.later _ (omega arith)) (sum_is read) _ c.month-value.ensures)
           (rw c.month-value.ensures
-          (value-fits a.round a.chance _ read.claim-sum.result.quotient read.claim-sum.result.remainder from.pre.1.1.chance-fits
+          (value_fits a.round a.chance _ read.claim_sum.result.quotient read.claim_sum.result.remainder from.pre.1.1.chance_fits
           (loop.inv.1.parts.each _) (sum_fits read))),
       (listed (ranged read.before)).1,
     )

@@ -8,7 +8,7 @@ abbrev start : tie.After-list-sizes → tie.Start
 start c = c.before.before.before.before
 
 list-sizes-requires : tie.Need-list-sizes-requires
-list-sizes-requires c κs = c.before.before.before.requires.1.1.sizes-fit
+list-sizes-requires c κs = c.before.before.before.requires.1.1.sizes_fit
 
 array-share-prefix-sizes : tie.Need-array-share-prefix-sizes
 array-share-prefix-sizes c = c.before.before.list-sizes.ensures.1.0

@@ -3,8 +3,8 @@ use native.Mathlib.Omega.{arith}
 use lib.ListN.{length-take}
 use lib.Seq.{length-take-le}
 use borrow.Author.Rules.{rules}
-use Rattle.month_rows.specs.Shapes.{rows-size}
-use Rattle.month_rule.proofs.HalfLaws.{first-half, second-half, parts-both}
+use Rattle.month_rows.specs.Shapes.{rows_size}
+use Rattle.month_rule.proofs.HalfLaws.{first_half, second_half, parts_both}
 use Rattle.month_rule.proofs.halves.last_halves.Statement.{statement}
 use Rattle.month_rule.proofs.halves.last_halves.Tie as tie
 
@@ -24,7 +24,7 @@ start c = c.before.before.before
 last-rows-requires : tie.Need-last-rows-requires
 last-rows-requires c κs =
     let from = start c in
-    (from.pre.0, length-take-le (rows-size from.args.shape) from.args.halves.now (omega arith))
+    (from.pre.0, length-take-le (rows_size from.args.shape) from.args.halves.now (omega arith))
 
 mul-last-rows : tie.Need-overflow-mul-last-rows
 mul-last-rows c = search rules
@@ -51,14 +51,14 @@ returns : tie.Need-returns
 returns c =
     let last = c.before.before.last-rows2 in
     let at-lower = lower c.before.before.before in
-    let first = at-lower.last-rows in
+    let first = at-lower.last_rows in
     let from = start at-lower.before in
     let xs = from.args.halves.now in
-    let half = rows-size from.args.shape in (
-      (λ top l k m s. rw (first-half xs first.last.0 last.new.0 half from.pre.1 first.kept.0) (first.ensures.0 top l k m s)),
+    let half = rows_size from.args.shape in (
+      (λ top l k m s. rw (first_half xs first.last.0 last.new.0 half from.pre.1 first.kept.0) (first.ensures.0 top l k m s)),
       (
-        (λ top l k m s. rw (second-half xs first.last.0 last.new.0 half from.pre.1 first.kept.0) (last.ensures.0 top l k m s)),
-        parts-both xs first.last.0 last.new.0 half from.pre.1 first.kept.0 first.ensures.1 last.ensures.1,
+        (λ top l k m s. rw (second_half xs first.last.0 last.new.0 half from.pre.1 first.kept.0) (last.ensures.0 top l k m s)),
+        parts_both xs first.last.0 last.new.0 half from.pre.1 first.kept.0 first.ensures.1 last.ensures.1,
       ),
     )
 

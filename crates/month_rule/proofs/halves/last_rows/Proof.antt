@@ -5,7 +5,7 @@ use lib.ListN.{length}
 use Rattle.model.specs.Scale.{S}
 use borrow.Author.Rules.{rules}
 use Rattle.month_rows.proofs.ManyRows.{row_fits}
-use Rattle.month_rule.proofs.HalfLaws.{last-rows-at, last-rows-parts}
+use Rattle.month_rule.proofs.HalfLaws.{last_rows_at, last_rows_parts}
 use Rattle.month_rule.proofs.halves.last_rows.Statement.{statement}
 use Rattle.month_rule.proofs.halves.last_rows.Tie as tie
 
@@ -59,8 +59,8 @@ returns c =
     let zero = at_zero.fill in
     let from = start (filled at_zero) in
     let a = from.args in (
-      last-rows-at a.rows.now zero.last.0 own.new.0 a.shape from.pre.0 from.pre.1 zero.ensures own.ensures,
-      last-rows-parts a.rows.now zero.last.0 own.new.0 a.shape from.pre.0 from.pre.1 zero.ensures own.ensures,
+      last_rows_at a.rows.now zero.last.0 own.new.0 a.shape from.pre.0 from.pre.1 zero.ensures own.ensures,
+      last_rows_parts a.rows.now zero.last.0 own.new.0 a.shape from.pre.0 from.pre.1 zero.ensures own.ensures,
     )
 
 pub last-rows-spec : {M : Type 1} → statement M

@@ -6,8 +6,8 @@ use native.Mathlib.Omega.{arith}
 use borrow.Rule.Slice.PartMut.{mid_of}
 use lib.ListN.{length, drop, length-take}
 use borrow.Author.Rules.{rules}
-use Rattle.month_rows.specs.Shapes.{rows-size}
-use Rattle.month_rule.proofs.HalfLaws.{lower-rows, upper-rows, second-lent, first-half, second-half}
+use Rattle.month_rows.specs.Shapes.{rows_size}
+use Rattle.month_rule.proofs.HalfLaws.{lower_rows, upper_rows, second_lent, first_half, second_half}
 use Rattle.month_rule.proofs.halves.listed_halves_back.Statement.{statement}
 use Rattle.month_rule.proofs.halves.listed_halves_back.Tie as tie
 
@@ -30,7 +30,7 @@ lower c = c.before.before.before
 all-months-back-requires : tie.Need-all-months-back-requires
 all-months-back-requires c κs =
     let from = start c in
-    (lower-rows from.args.shape from.args.halves.now from.pre.0, from.pre.1)
+    (lower_rows from.args.shape from.args.halves.now from.pre.0, from.pre.1)
 
 mul-all-months-back : tie.Need-overflow-mul-all-months-back
 mul-all-months-back c = search rules
@@ -48,17 +48,17 @@ part-all-months-back-end c = search rules
 second :
     (c : tie.After-all-months-back) →
     let xs = (start c.before).args.halves.now in
-    let half = rows-size (start c.before).args.shape in
+    let half = rows_size (start c.before).args.shape in
     let halves = c.all-months-back.new.0 ++ drop half xs in
     mid_of half (length halves - half) halves ≡ drop half xs
 second c =
     let from = start c.before in
-    second-lent from.args.halves.now c.all-months-back.new.0 c.all-months-back.new.0 (rows-size from.args.shape) from.pre.0.size c.all-months-back.auto.0
+    second_lent from.args.halves.now c.all-months-back.new.0 c.all-months-back.new.0 (rows_size from.args.shape) from.pre.0.size c.all-months-back.auto.0
 
 all-months-back-requires-2 : tie.Need-all-months-back-requires-2
 all-months-back-requires-2 c κs =
     let from = start (lower c).before in
-    (rw (second (lower c)) (upper-rows from.args.shape from.args.halves.now from.pre.0), from.pre.1)
+    (rw (second (lower c)) (upper_rows from.args.shape from.args.halves.now from.pre.0), from.pre.1)
 
 same_length : tie.Need-same-length
 same_length c = search rules
@@ -71,9 +71,9 @@ returns c =
     let first = at-lower.all-months-back in
     let from = start at-lower.before in
     let xs = from.args.halves.now in
-    let half = rows-size from.args.shape in (
-      rw (first-half xs first.last.0 last.new.0 half from.pre.0.size first.kept.0) first.ensures.0,
-      rw (second-half xs first.last.0 last.new.0 half from.pre.0.size first.kept.0) (rw (second at-lower) at last.ensures.0),
+    let half = rows_size from.args.shape in (
+      rw (first_half xs first.last.0 last.new.0 half from.pre.0.size first.kept.0) first.ensures.0,
+      rw (second_half xs first.last.0 last.new.0 half from.pre.0.size first.kept.0) (rw (second at-lower) at last.ensures.0),
     )
 
 pub listed-halves-back-spec : {M : Type 1} → statement M

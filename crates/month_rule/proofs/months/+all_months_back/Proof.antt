@@ -7,16 +7,16 @@ use borrow.Fn.Kinds.{In}
 use borrow.Fn.PlainCycle.{Measures, is, falls, and}
 use lib.ListN.{length, get_or, take, drop, length-drop}
 use lib.Seq.{length-take-le}
-use Rattle.model.specs.Levels.{largest-level}
-use Rattle.model.proofs.LevelLaws.{level-next, level-from}
-use Rattle.model.proofs.Values.{no-chances, first-and-rest}
+use Rattle.model.specs.Levels.{largest_level}
+use Rattle.model.proofs.LevelLaws.{level_next, level_from}
+use Rattle.model.proofs.Values.{no_chances, first_and_rest}
 use Rattle.claims.specs.Listing.{Listing}
 use Rattle.month_rows.specs.Rows.{MonthTerms}
 use Rattle.month_rule.specs.Months.{PlanTerms}
 use Rattle.month_rows.specs.Shapes.{RowsIn}
-use Rattle.month_rows.proofs.RowLaws.{parts-part}
-use Rattle.month_rows.proofs.ManyRows.{row_fits, rows-in-again}
-use Rattle.month_rule.proofs.AllMonths.{taken-back-none, taken-back-more}
+use Rattle.month_rows.proofs.RowLaws.{parts_part}
+use Rattle.month_rows.proofs.ManyRows.{row_fits, rows_in_again}
+use Rattle.month_rule.proofs.AllMonths.{taken_back_none, taken_back_more}
 use Rattle.month_rule.proofs.months.all_months_back.Reads as all-months-back
 use Rattle.month_rule.proofs.months.all_months_back.Kinds as all-months-back-kinds
 use Rattle.month_rule.proofs.months.+all_months_back.Lts-all_months_back as all-months-back-lts
@@ -76,7 +76,7 @@ listing-known t s = s.requires.1.1.1.1
 -- a month's income keeps within the rows
 record Fits (income opening months width size : ℕ) : Type 0 where
   some-month : 0 < months
-  levels : largest-level income (opening + income) (months - 1) < width
+  levels : largest_level income (opening + income) (months - 1) < width
   first : opening + income < width
   row : width ≤ size
 
@@ -86,11 +86,11 @@ fits t c =
     let a = from.args in
     let n = length a.chances.now in
     let some : n ≡ suc (n - 1) = omega arith in
-    let levels : largest-level a.shape.income (a.opening + a.shape.income) (n - 1) < a.shape.width = omega (arith, level-next a.shape.income a.opening (n - 1), ap (largest-level a.shape.income a.opening) some) in
+    let levels : largest_level a.shape.income (a.opening + a.shape.income) (n - 1) < a.shape.width = omega (arith, level_next a.shape.income a.opening (n - 1), ap (largest_level a.shape.income a.opening) some) in
     record {
       some-month = omega arith;
       levels = levels;
-      first = omega (arith, level-from a.shape.income (a.opening + a.shape.income) (a.opening + a.shape.income) (n - 1) (omega arith));
+      first = omega (arith, level_from a.shape.income (a.opening + a.shape.income) (a.opening + a.shape.income) (n - 1) (omega arith));
       row = omega (arith, (rows-known t from).size, row_fits 0 a.shape.rows a.shape.width (rows-known t from).some);
     }
 
@@ -98,7 +98,7 @@ all-months-back-returns : (t : ℕ) → all-months-back-lts.Need-returns (claims
 all-months-back-returns t c =
     let from = c.before.before.before.before.before in
     let a = from.args in
-    (rw (no-chances a.chances.now (omega arith)) (taken-back-none a.round a.severity.now a.shape a.opening a.rows.now), (rows-known t from).parts)
+    (rw (no_chances a.chances.now (omega arith)) (taken_back_none a.round a.severity.now a.shape a.opening a.rows.now), (rows-known t from).parts)
 
 all-months-back-add-after : (t : ℕ) → all-months-back-lts.Need-overflow-add-after (claims t) (all-months-back-at t) all-months-back.Post
 all-months-back-add-after t c = omega (arith, (fits t c.before).first, (fits t c.before).row)
@@ -120,7 +120,7 @@ all-months-back-all-months-back-requires t c κs =
     let n = length a.chances.now in
     let fewer : length (take (n - 1) (drop 1 a.chances.now)) ≡ n - 1 = length-take-le (n - 1) (drop 1 a.chances.now) (omega (arith, length-drop 1 a.chances.now)) in
     let terms : PlanTerms a.severity.now (take (n - 1) (drop 1 a.chances.now)) =
-    record { weights-fit = (terms-known t from).weights-fit; sizes-fit = (terms-known t from).sizes-fit; chances-fit = parts-part a.chances.now 1 (n - 1) (terms-known t from).chances-fit } in
+    record { weights_fit = (terms-known t from).weights_fit; sizes_fit = (terms-known t from).sizes_fit; chances_fit = parts_part a.chances.now 1 (n - 1) (terms-known t from).chances_fit } in
     (omega (arith, fewer, (fits t else1).some-month, from.pre.0), (rows-known t from, (rw fewer (fits t else1).levels, (terms, listing-known t from))))
 
 all-months-back-shared-slice-read-month-back : (t : ℕ) → all-months-back-lts.Need-shared-slice-read-month-back (claims t) (all-months-back-at t) all-months-back.Post
@@ -134,12 +134,12 @@ all-months-back-month-back-requires t c κs =
     let a = from.args in
     let terms : MonthTerms a.severity.now a.sizes.now a.dense (get_or a.chances.now 0 0) =
     record {
-      weights-fit = (terms-known t from).weights-fit;
+      weights_fit = (terms-known t from).weights_fit;
       listing = listing-known t from;
-      chance-fits = (terms-known t from).chances-fit.each 0;
+      chance_fits = (terms-known t from).chances_fit.each 0;
     } in (
-      rows-in-again a.shape a.rows.now (back .all-months-back .last .0) (rows-known t from) (back .all-months-back .kept .0) (back .all-months-back .ensures .1),
-      (record { income-below = omega arith; inside = (fits t else1).first }, terms),
+      rows_in_again a.shape a.rows.now (back .all-months-back .last .0) (rows-known t from) (back .all-months-back .kept .0) (back .all-months-back .ensures .1),
+      (record { income_below = omega arith; inside = (fits t else1).first }, terms),
     )
 
 all-months-back-same-length : (t : ℕ) → all-months-back-lts.Need-same-length (claims t) (all-months-back-at t) all-months-back.Post
@@ -148,13 +148,13 @@ all-months-back-same-length t c = search rules
 all-months-back-returns-2 : (t : ℕ) → all-months-back-lts.Need-returns-2 (claims t) (all-months-back-at t) all-months-back.Post
 all-months-back-returns-2 t c =
     let at_first = c.before.before in
-    let first = at_first.month-back in
+    let first = at_first.month_back in
     let at_rest = later t at_first.before in
     let rest = at_rest.all-months-back in
     let else1 = some-months t at_rest.before in
     let a = (start t else1).args in (
-      rw (first-and-rest a.chances.now (fits t else1).some-month)
-          (taken-back-more a.round a.severity.now a.shape a.opening (get_or a.chances.now 0 0) (take (length a.chances.now - 1) (drop 1 a.chances.now))
+      rw (first_and_rest a.chances.now (fits t else1).some-month)
+          (taken_back_more a.round a.severity.now a.shape a.opening (get_or a.chances.now 0 0) (take (length a.chances.now - 1) (drop 1 a.chances.now))
           a.rows.now rest.last.0 first.new.0 rest.ensures.0 first.ensures.0 first.ensures.1.0),
       first.ensures.1.1,
     )

@@ -6,10 +6,10 @@ use native.Mathlib.Omega.{arith}
 use borrow.Author.Rules.{rules}
 use lib.ListN.{length, drop}
 use lib.Seq.{length-take-le, length_front}
-use Rattle.model.specs.Levels.{largest-level}
-use Rattle.model.proofs.LevelLaws.{level-from}
-use Rattle.target_rows.proofs.WalkLaws.{found-opening, found-lower}
-use Rattle.opening_search.proofs.SearchLaws.{none_found, one_found, zero-still, second-count, zero-again}
+use Rattle.model.specs.Levels.{largest_level}
+use Rattle.model.proofs.LevelLaws.{level_from}
+use Rattle.target_rows.proofs.WalkLaws.{found_opening, found_lower}
+use Rattle.opening_search.proofs.SearchLaws.{none_found, one_found, zero_still, second_count, zero_again}
 use Rattle.opening_search.proofs.search.listed_search.Statement.{statement}
 use Rattle.opening_search.proofs.search.listed_search.Tie as tie
 
@@ -21,8 +21,8 @@ record Halves (half levels room : ℕ) : Type 0 where
 abbrev half_of : tie.Start → ℕ
 half_of c = c.args.opening + c.args.income * length c.args.chances.now + 1
 
-halves : (c : tie.Start) → let a = c.args in Halves (half_of c) (largest-level a.income a.opening (length a.chances.now)) (length a.workspace.now)
-unfolding largest-level
+halves : (c : tie.Start) → let a = c.args in Halves (half_of c) (largest_level a.income a.opening (length a.chances.now)) (length a.workspace.now)
+unfolding largest_level
 halves c = record { levels-inside = omega arith; whole = omega (arith, c.requires.0.1) }
 
 mul-half : tie.Need-overflow-mul-half
@@ -76,8 +76,8 @@ returns c =
     let a = from.args in
     let found = at-search.least-lower in (
       none_found a.income a.severity.now a.opening a.chances.now a.target found.result.opening
-          (found-opening a.income a.severity.now a.opening a.chances.now a.target found.result found.ensures.0) c.before.if1.true c.refused.result c.refused.ensures,
-      zero-still (length a.workspace.now) (half_of from) (omega (arith, (halves from).whole)) at_fill_lem.fill.last.0 found.last.0 at_fill_lem.fill.ensures found.ensures.1,
+          (found_opening a.income a.severity.now a.opening a.chances.now a.target found.result found.ensures.0) c.before.if1.true c.refused.result c.refused.ensures,
+      zero_still (length a.workspace.now) (half_of from) (omega (arith, (halves from).whole)) at_fill_lem.fill.last.0 found.last.0 at_fill_lem.fill.ensures found.ensures.1,
     )
 
 -- the workspace between the two halves' work is as long as it was
@@ -104,13 +104,13 @@ upper-at-requires c κs =
     let from = start at_fill_lem in
     let a = from.args in
     let found = at-search.least-lower in
-    let size = second-count (length a.workspace.now) (half_of from) (omega (arith, (halves from).whole)) at_fill_lem.fill.last.0 found.last.0 at_fill_lem.fill.ensures found.ensures.1
+    let size = second_count (length a.workspace.now) (half_of from) (omega (arith, (halves from).whole)) at_fill_lem.fill.last.0 found.last.0 at_fill_lem.fill.ensures found.ensures.1
     (halves from).whole found.kept.0 in
     record {
       terms = from.pre.1.0.0;
       listing = from.pre.1.0.1;
       earns = from.pre.0.0;
-      inside = omega (arith, (halves from).levels-inside, size, level-from a.income found.result.opening a.opening (length a.chances.now) else1.if1.false);
+      inside = omega (arith, (halves from).levels-inside, size, level_from a.income found.result.opening a.opening (length a.chances.now) else1.if1.false);
     }
 
 same-length-2 : tie.Need-same-length-2
@@ -125,11 +125,11 @@ returns-2 c =
     let from = start at_fill_lem in
     let a = from.args in
     let found = at-search.least-lower in
-    let upper = worked.upper-at in (
+    let upper = worked.upper_at in (
       one_found a.income a.severity.now a.opening a.chances.now a.target found.result.opening
-          (found-opening a.income a.severity.now a.opening a.chances.now a.target found.result found.ensures.0) else1.if1.false found.result.lower upper.result
-          (found-lower a.income a.severity.now a.opening a.chances.now a.target found.result found.ensures.0 else1.if1.false) upper.ensures.0,
-      zero-again (length a.workspace.now) (half_of from) (omega (arith, (halves from).whole)) at_fill_lem.fill.last.0 found.last.0 at_fill_lem.fill.ensures found.ensures.1
+          (found_opening a.income a.severity.now a.opening a.chances.now a.target found.result found.ensures.0) else1.if1.false found.result.lower upper.result
+          (found_lower a.income a.severity.now a.opening a.chances.now a.target found.result found.ensures.0 else1.if1.false) upper.ensures.0,
+      zero_again (length a.workspace.now) (half_of from) (omega (arith, (halves from).whole)) at_fill_lem.fill.last.0 found.last.0 at_fill_lem.fill.ensures found.ensures.1
           (halves from).whole found.kept.0 upper.new.0 upper.ensures.1,
     )
 

@@ -2,7 +2,7 @@
 use mathlib.Core.Path.{sym, ap, ◌∙◌}
 use Rattle.model.specs.Scale.{S}
 use Rattle.model.specs.MonthRule.{last_of}
-use Rattle.plain_engine.proofs.ValueLaws.{none-unplaced, some-unplaced}
+use Rattle.plain_engine.proofs.ValueLaws.{none_unplaced, some_unplaced}
 use borrow.Author.Rules.{rules}
 use Rattle.plain_engine.proofs.steps.last_value.Statement.{statement}
 use Rattle.plain_engine.proofs.steps.last_value.Tie as tie
@@ -27,13 +27,13 @@ returns-2 : tie.Need-returns-2
 unfolding S last_of
 returns-2 c s =
     let a = c.before.before.before.args in
-    none-unplaced a.left s c.if1.true ∙ sym (ap (λ q. last_of q a.left s) c.before.enum-told2.given.1)
+    none_unplaced a.left s c.if1.true ∙ sym (ap (λ q. last_of q a.left s) c.before.enum-told2.given.1)
 
 returns-3 : tie.Need-returns-3
 unfolding last_of
 returns-3 c s =
     let a = c.before.before.before.args in
-    some-unplaced a.left s c.if1.false ∙ sym (ap (λ q. last_of q a.left s) c.before.enum-told2.given.1)
+    some_unplaced a.left s c.if1.false ∙ sym (ap (λ q. last_of q a.left s) c.before.enum-told2.given.1)
 
 returns-4 : tie.Need-returns-4
 unfolding S last_of

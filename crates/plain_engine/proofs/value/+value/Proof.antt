@@ -7,11 +7,11 @@ use borrow.Author.Rules.{rules}
 use lib.ListN.{length, take, drop}
 use Rattle.model.specs.Scale.{S}
 use Rattle.model.specs.Sums.{sum}
-use Rattle.model.specs.MonthRule.{claim-sum, claimed-row, values, rule-of}
-use Rattle.model.specs.Limits.{small-income}
-use Rattle.model.proofs.Values.{no-chances}
+use Rattle.model.specs.MonthRule.{claim_sum, claimed_row, values, rule_of}
+use Rattle.model.specs.Limits.{small_income}
+use Rattle.model.proofs.Values.{no_chances}
 use Rattle.plain_engine.specs.Steps.{Terms}
-use Rattle.plain_engine.proofs.ValueLaws.{followed-within, rows-after, claim-term, followed-sum, term_is, Summing, summing-turn, summing-end, fewer-months, later-terms, row_fits, sum_fits, level-is, value-is}
+use Rattle.plain_engine.proofs.ValueLaws.{followed_within, rows_after, claim_term, followed_sum, term_is, Summing, summing_turn, summing_end, fewer_months, later_terms, row_fits, sum_fits, level_is, value_is}
 use borrow.Fn.Kinds.{In, Out}
 use borrow.Fn.PlainCycle.{Measures, is, falls, and}
 use Rattle.plain_engine.proofs.value.value.Reads as value
@@ -41,7 +41,7 @@ claims t = (last-value-reads.Asked, last-value-reads.Learnt, value-below t, valu
 
 abbrev value-Inv-loop : value-lts.invariant-loop
 value-Inv-loop question chances severity left level round later up quiet fewer most sum₀ x₀ sum x =
-    Summing (claim-term severity (rows-after round question severity (take (length chances - 1) (drop 1 chances)) fewer) level) most sum x
+    Summing (claim_term severity (rows_after round question severity (take (length chances - 1) (drop 1 chances)) fewer) level) most sum x
 
 abbrev value-μ-loop : value-lts.decreases-loop
 value-μ-loop question chances severity left level round later up quiet fewer most sum₀ x₀ sum x = most + 1 - x
@@ -72,8 +72,8 @@ value-value-requires : (t : ℕ) → At value-lts.Need-value-requires t
 value-value-requires t c κs =
     let from = start t c.before in
     let a = from.args in (
-      omega (arith, from.pre.0, fewer-months a.chances.now, some-month t c.before),
-      later-terms a.round a.question a.severity.now a.chances.now a.level (terms t c.before) (some-month t c.before) _ (omega arith),
+      omega (arith, from.pre.0, fewer_months a.chances.now, some-month t c.before),
+      later_terms a.round a.question a.severity.now a.chances.now a.level (terms t c.before) (some-month t c.before) _ (omega arith),
     )
 
 -- a size that is followed has a weight, and does not ruin
@@ -84,18 +84,18 @@ inside :
 inside t c =
     let at = c.before.before in
     let a = (start t (months-left t at)).args in
-    let all = followed-within ((rule-of a.question).after-claim a.left) at.before.lesser.result in
+    let all = followed_within ((rule_of a.question).after_claim a.left) at.before.lesser.result in
     (c.before.loop.invariant.some, omega (arith, c.loop-test.true, at.followed.ensures, at.before.lesser.ensures, all), omega (arith, c.loop-test.true, at.followed.ensures, at.before.lesser.ensures, all))
 
 -- the sum over all sizes that are followed is the claim sum
 whole :
     (t : ℕ) (c : At value-lts.After-followed t) →
     let a = (start t (months-left t c)).args in
-    sum c.followed.result (claim-term a.severity.now (rows-after a.round a.question a.severity.now (take (length a.chances.now - 1) (drop 1 a.chances.now)) c.before.before.claims-after.result) a.level)
-    ≡ claim-sum a.severity.now (claimed-row (rows-after a.round a.question a.severity.now (take (length a.chances.now - 1) (drop 1 a.chances.now))) ((rule-of a.question).after-claim a.left)) (a.level + small-income)
+    sum c.followed.result (claim_term a.severity.now (rows_after a.round a.question a.severity.now (take (length a.chances.now - 1) (drop 1 a.chances.now)) c.before.before.claims-after.result) a.level)
+    ≡ claim_sum a.severity.now (claimed_row (rows_after a.round a.question a.severity.now (take (length a.chances.now - 1) (drop 1 a.chances.now))) ((rule_of a.question).after_claim a.left)) (a.level + small_income)
 whole t c =
     let a = (start t (months-left t c)).args in
-    followed-sum a.severity.now (rows-after a.round a.question a.severity.now (take (length a.chances.now - 1) (drop 1 a.chances.now))) ((rule-of a.question).after-claim a.left) a.level
+    followed_sum a.severity.now (rows_after a.round a.question a.severity.now (take (length a.chances.now - 1) (drop 1 a.chances.now))) ((rule_of a.question).after_claim a.left) a.level
     c.followed.result c.before.lesser.result c.before.before.claims-after.result c.before.lesser.ensures c.followed.ensures c.before.before.claims-after.ensures
 
 -- the product that a turn adds
@@ -104,7 +104,7 @@ added :
     let loop = (turn t c).before in
     let a = (start t (months-left t loop.before)).args in
     (loop.loop.sum + c.product.result ≤ S * S)
-    × Summing (claim-term a.severity.now (rows-after a.round a.question a.severity.now (take (length a.chances.now - 1) (drop 1 a.chances.now)) loop.before.before.before.claims-after.result) a.level)
+    × Summing (claim_term a.severity.now (rows_after a.round a.question a.severity.now (take (length a.chances.now - 1) (drop 1 a.chances.now)) loop.before.before.before.claims-after.result) a.level)
     loop.before.followed.result (loop.loop.sum + c.product.result) (loop.loop.x + 1)
 added t c =
     let loop = (turn t c).before in
@@ -113,11 +113,11 @@ added t c =
     let later = take (length a.chances.now - 1) (drop 1 a.chances.now) in
     let fewer = loop.before.before.before.claims-after.result in
     let down = c.before.level-value2 in
-    let read = level-is a.round a.question a.severity.now later fewer (a.level + small-income - loop.loop.x) _ down.result down.ensures c.before.before.before.value2.ensures in
+    let read = level_is a.round a.question a.severity.now later fewer (a.level + small_income - loop.loop.x) _ down.result down.ensures c.before.before.before.value2.ensures in
     let more =
-    summing-turn (claim-term a.severity.now (rows-after a.round a.question a.severity.now later fewer) a.level) loop.before.followed.result loop.loop.sum loop.loop.x
+    summing_turn (claim_term a.severity.now (rows_after a.round a.question a.severity.now later fewer) a.level) loop.before.followed.result loop.loop.sum loop.loop.x
     c.product.result (turn t c).loop-test.true
-    (term_is a.severity.now (rows-after a.round a.question a.severity.now later fewer) a.level loop.loop.x down.result c.product.result loop.loop.inv.some c.product.ensures read)
+    (term_is a.severity.now (rows_after a.round a.question a.severity.now later fewer) a.level loop.loop.x down.result c.product.result loop.loop.inv.some c.product.ensures read)
     loop.loop.inv in
     (omega (arith, more.0, whole t loop.before, sum_fits a.round a.question a.severity.now a.chances.now a.level (terms t else1) a.left), more.1)
 
@@ -126,19 +126,19 @@ quiet_is :
     (t : ℕ) (c : At value-lts.After-followed t) →
     let a = (start t (months-left t c)).args in
     c.before.before.before.level-value.result
-    ≡ rows-after a.round a.question a.severity.now (take (length a.chances.now - 1) (drop 1 a.chances.now)) a.left (a.level + small-income)
+    ≡ rows_after a.round a.question a.severity.now (take (length a.chances.now - 1) (drop 1 a.chances.now)) a.left (a.level + small_income)
 quiet_is t c =
     let a = (start t (months-left t c)).args in
     let quiet = c.before.before.before in
-    level-is a.round a.question a.severity.now (take (length a.chances.now - 1) (drop 1 a.chances.now)) a.left (a.level + small-income)
+    level_is a.round a.question a.severity.now (take (length a.chances.now - 1) (drop 1 a.chances.now)) a.left (a.level + small_income)
     quiet.before.value.result quiet.level-value.result quiet.level-value.ensures quiet.before.value.ensures
 
 sum_is :
     (t : ℕ) (c : At value-lts.After-loop t) →
     let a = (start t (months-left t c.before.before)).args in
     c.before.loop.sum
-    ≡ claim-sum a.severity.now (claimed-row (rows-after a.round a.question a.severity.now (take (length a.chances.now - 1) (drop 1 a.chances.now))) ((rule-of a.question).after-claim a.left)) (a.level + small-income)
-sum_is t c = summing-end _ _ _ _ c.loop-test.false c.before.loop.invariant ∙ whole t c.before.before
+    ≡ claim_sum a.severity.now (claimed_row (rows_after a.round a.question a.severity.now (take (length a.chances.now - 1) (drop 1 a.chances.now))) ((rule_of a.question).after_claim a.left)) (a.level + small_income)
+sum_is t c = summing_end _ _ _ _ c.loop-test.false c.before.loop.invariant ∙ whole t c.before.before
 
 value-last-value-requires : (t : ℕ) → At value-lts.Need-last-value-requires t
 value-last-value-requires t c κs = tt
@@ -147,7 +147,7 @@ value-returns : (t : ℕ) → At value-lts.Need-returns t
 unfolding values
 value-returns t c =
     let a = c.before.before.before.before.args in
-    rw (no-chances a.chances.now (omega arith)) (c.last-value.ensures a.level)
+    rw (no_chances a.chances.now (omega arith)) (c.last-value.ensures a.level)
 
 value-sub-later : (t : ℕ) → At value-lts.Need-overflow-sub-later t
 value-sub-later t c = search rules
@@ -159,7 +159,7 @@ value-part-later-end : (t : ℕ) → At value-lts.Need-slice-bounds-later-end t
 value-part-later-end t c = search rules
 
 value-add-up : (t : ℕ) → At value-lts.Need-overflow-add-up t
-value-add-up t c = omega (arith, (terms t c.before).levels-fit, some-month t c.before)
+value-add-up t c = omega (arith, (terms t c.before).levels_fit, some-month t c.before)
 
 value-level-value-requires : (t : ℕ) → At value-lts.Need-level-value-requires t
 value-level-value-requires t c κs = tt
@@ -185,8 +185,8 @@ value-value-requires-2 t c κs =
     let else1 = months-left t c.before.before in
     let from = start t else1 in
     let a = from.args in (
-      omega (arith, from.pre.0, fewer-months a.chances.now, some-month t else1),
-      later-terms a.round a.question a.severity.now a.chances.now a.level (terms t else1) (some-month t else1) _ (omega arith),
+      omega (arith, from.pre.0, fewer_months a.chances.now, some-month t else1),
+      later_terms a.round a.question a.severity.now a.chances.now a.level (terms t else1) (some-month t else1) _ (omega arith),
     )
 
 value-sub-product : (t : ℕ) → At value-lts.Need-overflow-sub-product t
@@ -209,7 +209,7 @@ unfolding S
 value-add-sum t c = omega (arith, (added t c).0)
 
 value-add-x : (t : ℕ) → At value-lts.Need-overflow-add-x t
-value-add-x t c = omega (arith, (inside t (turn t c)).1, (terms t (months-left t (turn t c).before.before)).levels-fit)
+value-add-x t c = omega (arith, (inside t (turn t c)).1, (terms t (months-left t (turn t c).before.before)).levels_fit)
 
 value-loop-less : (t : ℕ) → At value-lts.Need-loop-smaller t
 value-loop-less t c = omega (arith, (turn t c).loop-test.true)
@@ -229,10 +229,10 @@ value-month-value-requires t c κs =
     let a = (start t else1).args in
     let n = ended.before.loop.sum in
     let left : n % S < S = omega arith in
-    let whole-fits : n ≤ S * S = rw (sum_is t ended) (sum_fits a.round a.question a.severity.now a.chances.now a.level (terms t else1) a.left) in
-    let joined : n / S * S + n % S ≤ S * S = rw (div-add-mod' n S) whole-fits in (
-      (terms t else1).chances-fit 0,
-      rw (quiet_is t at) (row_fits a.round a.question a.severity.now a.chances.now a.level (terms t else1) a.left (a.level + small-income)),
+    let whole_fits : n ≤ S * S = rw (sum_is t ended) (sum_fits a.round a.question a.severity.now a.chances.now a.level (terms t else1) a.left) in
+    let joined : n / S * S + n % S ≤ S * S = rw (div-add-mod' n S) whole_fits in (
+      (terms t else1).chances_fit 0,
+      rw (quiet_is t at) (row_fits a.round a.question a.severity.now a.chances.now a.level (terms t else1) a.left (a.level + small_income)),
       joined,
       left,
     )
@@ -244,7 +244,7 @@ value-returns-2 t c =
     let at = ended.before.before in
     let else1 = months-left t at in
     let a = (start t else1).args in
-    value-is a.round a.question a.severity.now a.chances.now a.left a.level _ _ c.month-value.result (some-month t else1) (quiet_is t at) (sum_is t ended) c.month-value.ensures
+    value_is a.round a.question a.severity.now a.chances.now a.left a.level _ _ c.month-value.result (some-month t else1) (quiet_is t at) (sum_is t ended) c.month-value.ensures
 
 pub +value-spec : {M : Type 1} → statement M
 +value-spec = close μ-value λ t. value-lts.spec (claims t)

@@ -20,7 +20,7 @@ returns : tie.Need-returns
 unfolding kept
 returns c =
     let a = c.before.before.before.before.before.before.args in
-    rw (← c.before.opening-allowed.ensures, ← c.before.before.before.claims-to-place.ensures, ← c.before.before.value.ensures) c.taken.ensures
+    rw (← c.before.opening_allowed.ensures, ← c.before.before.before.claims-to-place.ensures, ← c.before.before.value.ensures) c.taken.ensures
 
 pub opening-value-spec : {M : Type 1} → statement M
 opening-value-spec =

@@ -1,14 +1,14 @@
 -- `plan::lengths::row_length` meets its contract: the limits of a head keep the sum small.
 use native.Mathlib.Omega.{arith}
-use Rattle.model.proofs.Facts.{head-facts}
+use Rattle.model.proofs.Facts.{head_facts}
 use Rattle.plan.proofs.lengths.row_length.Statement.{statement}
 use Rattle.plan.proofs.lengths.row_length.Tie as tie
 
 add-result : tie.Need-overflow-add-result
-add-result c = omega (arith, head-facts _ c.before.requires)
+add-result c = omega (arith, head_facts _ c.before.requires)
 
 add-result-2 : tie.Need-overflow-add-result-2
-add-result-2 c = omega (arith, head-facts _ c.before.requires)
+add-result-2 c = omega (arith, head_facts _ c.before.requires)
 
 returns : tie.Need-returns
 returns c = omega arith

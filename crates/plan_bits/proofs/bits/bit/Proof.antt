@@ -5,7 +5,7 @@ use native.Mathlib.Omega.{arith}
 use borrow.Author.Rules.{rules}
 use lib.Dec.{lit<}
 use Rattle.model.specs.Format.{bits_of}
-use Rattle.plan_bits.proofs.Fields.{flat-digit}
+use Rattle.plan_bits.proofs.Fields.{flat_digit}
 use Rattle.plan_bits.proofs.bits.bit.Statement.{statement}
 use Rattle.plan_bits.proofs.bits.bit.Tie as tie
 
@@ -23,7 +23,7 @@ digit-requires c κs = search rules
 
 returns : tie.Need-returns
 unfolding bits_of
-returns c = c.digit.ensures ∙ sym (flat-digit 8 _ _ (lit< tt))
+returns c = c.digit.ensures ∙ sym (flat_digit 8 _ _ (lit< tt))
 
 pub bit-spec : {M : Type 1} → statement M
 bit-spec = tie.close (tie.spec shared-slice-read-byte cast-byte sub-place digit-requires returns)

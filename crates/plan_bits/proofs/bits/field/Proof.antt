@@ -7,7 +7,7 @@ use borrow.Author.Rules.{rules}
 use lib.ListN.{length, get_or, take, drop}
 use Rattle.model.specs.Format.{number, bits_of}
 use Rattle.plan_bits.proofs.Fields.{field_next, field_fits}
-use Rattle.plan_bits.proofs.PlanBits.{length-bits-of, bits-bits-of}
+use Rattle.plan_bits.proofs.PlanBits.{length_bits_of, bits_bits_of}
 use Rattle.plan_bits.proofs.bits.field.Statement.{statement}
 use Rattle.plan_bits.proofs.bits.field.Tie as tie
 
@@ -28,13 +28,13 @@ abbrev from_at : tie.At-loop invariant-loop decreases-loop → ℕ
 from_at c = c.before.before.args.from
 
 inside : (c : tie.In-loop invariant-loop decreases-loop) → from_at c.before + c.before.loop.k < length (bits_at c.before)
-inside c = rw length-bits-of (omega arith)
+inside c = rw length_bits_of (omega arith)
 
 -- the bits so far and the next one are a number of 31 bits
 turn :
     (c : tie.In-loop invariant-loop decreases-loop)
     → c.before.loop.x * 2 + get_or (bits_at c.before) (from_at c.before + c.before.loop.k) 0 < 2 ^ 31
-turn c = field_fits _ _ _ _ _ c.before.loop.invariant.1 refl (inside c) 31 (bits-bits-of _) (omega arith)
+turn c = field_fits _ _ _ _ _ c.before.loop.invariant.1 refl (inside c) 31 (bits_bits_of _) (omega arith)
 
 mul-x : tie.Need-overflow-mul-x invariant-loop decreases-loop
 mul-x c = omega (arith, turn c)

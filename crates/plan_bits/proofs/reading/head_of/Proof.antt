@@ -1,32 +1,32 @@
 -- `plan_bits::reading::head_of` meets its contract: a field for each of its numbers.
-use Rattle.model.specs.Format.{head-bits, head_of}
+use Rattle.model.specs.Format.{head_bits, head_of}
 use borrow.Author.Rules.{rules}
 use Rattle.plan_bits.proofs.reading.head_of.Statement.{statement}
 use Rattle.plan_bits.proofs.reading.head_of.Tie as tie
 
 field-requires : tie.Need-field-requires
-unfolding head-bits
+unfolding head_bits
 field-requires c κs = search rules
 
 cast-months : tie.Need-overflow-cast-months
 cast-months c = search rules
 
 field-requires-2 : tie.Need-field-requires-2
-unfolding head-bits
+unfolding head_bits
 field-requires-2 c κs = search rules
 
 cast-opening : tie.Need-overflow-cast-opening
 cast-opening c = search rules
 
 field-requires-3 : tie.Need-field-requires-3
-unfolding head-bits
+unfolding head_bits
 field-requires-3 c κs = search rules
 
 cast-sizes : tie.Need-overflow-cast-sizes
 cast-sizes c = search rules
 
 field-requires-4 : tie.Need-field-requires-4
-unfolding head-bits
+unfolding head_bits
 field-requires-4 c κs = search rules
 
 cast-income : tie.Need-overflow-cast-income

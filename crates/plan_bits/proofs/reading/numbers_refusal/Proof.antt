@@ -7,8 +7,8 @@ use borrow.Author.Rules.{rules}
 use lib.ListN.{length, take, drop, replicate, length-append}
 use lib.Seq.{length-take-le, take_at}
 use Rattle.model.specs.Limits.{row_room}
-use Rattle.model.specs.Format.{number-width, head-bits, bits_of, fields}
-use Rattle.model.specs.Refusal.{plan-refusal}
+use Rattle.model.specs.Format.{number_width, head_bits, bits_of, fields}
+use Rattle.model.specs.Refusal.{plan_refusal}
 use Rattle.plan_bits.proofs.Fields.{length_fields}
 use Rattle.plan_bits.proofs.reading.numbers_refusal.Statement.{statement}
 use Rattle.plan_bits.proofs.reading.numbers_refusal.Tie as tie
@@ -40,11 +40,11 @@ abbrev lent : tie.After-decode → tie.After-row
 lent c = c.before
 
 -- the numbers that were read
-decoded : (c : tie.After-decode) → c.decode.new.1.0 ≡ fields number-width (count_at (lent c)) (drop head-bits (bits_of (bytes-at (lent c))))
-decoded c = c.decode.ensures ∙ ap (λ n. fields number-width n (drop head-bits (bits_of (bytes-at (lent c))))) (lent_length (lent c))
+decoded : (c : tie.After-decode) → c.decode.new.1.0 ≡ fields number_width (count_at (lent c)) (drop head_bits (bits_of (bytes-at (lent c))))
+decoded c = c.decode.ensures ∙ ap (λ n. fields number_width n (drop head_bits (bits_of (bytes-at (lent c))))) (lent_length (lent c))
 
 decoded-length : (c : tie.After-decode) → length c.decode.new.1.0 ≡ count_at (lent c)
-decoded-length c = ap length (decoded c) ∙ length_fields number-width _ _
+decoded-length c = ap length (decoded c) ∙ length_fields number_width _ _
 
 abbrev stored : tie.After-row2 → tie.After-decode
 stored c = c.before
@@ -64,8 +64,8 @@ shared c = c.before.before
 returns : tie.Need-returns
 returns c =
     let at_row = stored (shared c) in
-    c.plan-refusal.ensures
-    ∙ ap (plan-refusal (start (lent at_row)).args.head) (take_at _ _ _ (decoded-length at_row) ∙ decoded at_row)
+    c.plan_refusal.ensures
+    ∙ ap (plan_refusal (start (lent at_row)).args.head) (take_at _ _ _ (decoded-length at_row) ∙ decoded at_row)
 
 pub numbers-refusal-spec : {M : Type 1} → statement M
 numbers-refusal-spec =

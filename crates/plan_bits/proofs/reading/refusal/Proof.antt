@@ -11,13 +11,13 @@ use lib.Dec.{ltb, eqb}
 use lib.ListN.{length, drop, length-drop}
 use lib.Seq.{take_all}
 use Rattle.model.specs.Sums.{any}
-use Rattle.model.specs.Plan.{row-length}
-use Rattle.model.specs.Format.{number-width, head_bytes, number, head-bits, bits_of, fields, bit_length, byte-length, head_of, row_of, fill-of}
-use Rattle.model.specs.Refusal.{first, head-checks, HeadAccepted, plan-refusal, read-refusal}
-use Rattle.model.proofs.Facts.{head-facts}
-use Rattle.model.proofs.Rooms.{byte-length-fits, longest-between}
-use Rattle.plan_bits.proofs.PlanBits.{length-bits-of}
-use Rattle.plan_bits.proofs.RefusalLaws.{fill-test, read_short, read_head, read_length, read-padding, read-rest}
+use Rattle.model.specs.Plan.{row_length}
+use Rattle.model.specs.Format.{number_width, head_bytes, number, head_bits, bits_of, fields, bit_length, byte_length, head_of, row_of, fill_of}
+use Rattle.model.specs.Refusal.{first, head_checks, HeadAccepted, plan_refusal, read_refusal}
+use Rattle.model.proofs.Facts.{head_facts}
+use Rattle.model.proofs.Rooms.{byte_length_fits, longest_between}
+use Rattle.plan_bits.proofs.PlanBits.{length_bits_of}
+use Rattle.plan_bits.proofs.RefusalLaws.{fill_test, read_short, read_head, read_length, read_padding, read_rest}
 use Rattle.plan_bits.proofs.reading.refusal.Statement.{statement}
 use Rattle.plan_bits.proofs.reading.refusal.Tie as tie
 
@@ -32,31 +32,31 @@ abbrev bytes-at : tie.After-head-of → List ℕ
 bytes-at c = (start (short-passed c)).args.bytes.now
 
 returns : tie.Need-returns
-unfolding head-bits
+unfolding head_bits
 returns c = sym (read_short _ _ c.if1.true)
 
 head-of-requires : tie.Need-head-of-requires
-unfolding head-bits
+unfolding head_bits
 head-of-requires c κs = search rules
 
 head-refusal-requires : tie.Need-head-refusal-requires
 head-refusal-requires c κs = search rules
 
 head-whole : (c : tie.After-head-of) → head_bytes ≤ length (bytes-at c)
-unfolding head-bits
+unfolding head_bits
 head-whole c = (short-passed c).if1.false
 
 abbrev head_read : tie.After-head-refusal → tie.After-head-of
 head_read c = c.before
 
 -- the head's refusal
-head-number : (c : tie.After-head-refusal) → c.head-refusal.result ≡ first (head-checks (head_of (bytes-at (head_read c))))
-head-number c = c.head-refusal.ensures ∙ ap (λ h. first (head-checks h)) (head_read c).head_of.ensures
+head_number : (c : tie.After-head-refusal) → c.head-refusal.result ≡ first (head_checks (head_of (bytes-at (head_read c))))
+head_number c = c.head-refusal.ensures ∙ ap (λ h. first (head_checks h)) (head_read c).head_of.ensures
 
 returns-2 : tie.Need-returns-2
 returns-2 c =
-    head-number c.before
-    ∙ sym (read_head _ _ (head-whole (head_read c.before)) (λ e. c.if2.true (head-number c.before ∙ e)))
+    head_number c.before
+    ∙ sym (read_head _ _ (head-whole (head_read c.before)) (λ e. c.if2.true (head_number c.before ∙ e)))
 
 abbrev head-checked : tie.Else2 → tie.After-head-refusal
 head-checked c = c.before
@@ -66,7 +66,7 @@ abbrev head-2 : tie.Else2 → tie.After-head-of
 head-2 c = head_read (head-checked c)
 
 head_ok : (c : tie.Else2) → HeadAccepted (head_of (bytes-at (head-2 c)))
-head_ok c = sym (head-number (head-checked c)) ∙ c.if2.false
+head_ok c = sym (head_number (head-checked c)) ∙ c.if2.false
 
 -- of the head as it was read
 head-ok-here : (c : tie.Else2) → HeadAccepted (head-2 c).head_of.result
@@ -78,8 +78,8 @@ byte-length-requires c κs = head-ok-here c
 abbrev head_passed : tie.After-byte-length → tie.Else2
 head_passed c = c.before
 
-byte-length-is : (c : tie.After-byte-length) → c.byte-length.result ≡ byte-length (head_of (bytes-at (head-2 (head_passed c))))
-byte-length-is c = c.byte-length.ensures ∙ ap byte-length (head-2 (head_passed c)).head_of.ensures
+byte-length-is : (c : tie.After-byte-length) → c.byte_length.result ≡ byte_length (head_of (bytes-at (head-2 (head_passed c))))
+byte-length-is c = c.byte_length.ensures ∙ ap byte_length (head-2 (head_passed c)).head_of.ensures
 
 returns-3 : tie.Need-returns-3
 returns-3 c =
@@ -92,8 +92,8 @@ bytes_counted c = c.before
 abbrev head-3 : tie.Else3 → tie.After-head-of
 head-3 c = head-2 (head_passed (bytes_counted c))
 
-length-is : (c : tie.Else3) → length (bytes-at (head-3 c)) ≡ byte-length (head_of (bytes-at (head-3 c)))
-length-is c = c.if3.false ∙ byte-length-is (bytes_counted c)
+length_is : (c : tie.Else3) → length (bytes-at (head-3 c)) ≡ byte_length (head_of (bytes-at (head-3 c)))
+length_is c = c.if3.false ∙ byte-length-is (bytes_counted c)
 
 head-ok-3 : (c : tie.Else3) → HeadAccepted (head-3 c).head_of.result
 head-ok-3 c = head-ok-here (head_passed (bytes_counted c))
@@ -110,15 +110,15 @@ ends :
     → (c.bit_length.result ≤ 8 * length (bytes-at (head-3 (length-passed c))))
     × (8 * length (bytes-at (head-3 (length-passed c))) < c.bit_length.result + 8)
     × (length (bytes-at (head-3 (length-passed c))) < 2 ^ 16)
-unfolding byte-length
+unfolding byte_length
 ends c =
     omega (
       arith,
       c.bit_length.ensures,
-      (bytes_counted (length-passed c)).byte-length.ensures,
+      (bytes_counted (length-passed c)).byte_length.ensures,
       (length-passed c).if3.false,
-      byte-length-fits _ (head-ok-3 (length-passed c)),
-      longest-between,
+      byte_length_fits _ (head-ok-3 (length-passed c)),
+      longest_between,
     )
 
 mul-fill : tie.Need-overflow-mul-fill
@@ -139,31 +139,31 @@ end-found c = c.before
 abbrev filled-bytes : tie.After-field → List ℕ
 filled-bytes c = bytes-at (head-3 (length-passed (end-found c)))
 
-rest-length :
+rest_length :
     (c : tie.After-field)
     → length (drop (end-found c).bit_length.result (bits_of (filled-bytes c)))
     ≡ 8 * length (filled-bytes c) - (end-found c).bit_length.result
-rest-length c = rw (length-drop, length-bits-of)
+rest_length c = rw (length-drop, length_bits_of)
 
 -- the number that the fill's bits stand for
-fill-number : (c : tie.After-field) → c.field.result ≡ number (fill-of (filled-bytes c))
-unfolding fill-of
+fill-number : (c : tie.After-field) → c.field.result ≡ number (fill_of (filled-bytes c))
+unfolding fill_of
 fill-number c =
     c.field.ensures
-    ∙ ap number (take_all _ _ (le_of_eq (rest-length c)))
+    ∙ ap number (take_all _ _ (le_of_eq (rest_length c)))
     ∙ ap (λ n. number (drop n (bits_of (filled-bytes c)))) (end_is (end-found c))
 
-padding : (c : tie.After-field) → any (eqb 1) (fill-of (filled-bytes c)) ≡ not (eqb c.field.result 0)
-padding c = fill-test (filled-bytes c) ∙ ap (λ n. not (eqb n 0)) (sym (fill-number c))
+padding : (c : tie.After-field) → any (eqb 1) (fill_of (filled-bytes c)) ≡ not (eqb c.field.result 0)
+padding c = fill_test (filled-bytes c) ∙ ap (λ n. not (eqb n 0)) (sym (fill-number c))
 
 returns-4 : tie.Need-returns-4
 returns-4 c =
     let passed = length-passed (end-found c.before) in
     sym
-    (read-padding _ _
+    (read_padding _ _
     (head-whole (head-3 passed))
     (head_ok (head_passed (bytes_counted passed)))
-    (length-is passed)
+    (length_is passed)
     (padding c.before ∙ rw (ne_eqb _ 0 c.if4.true)))
 
 abbrev fill-read : tie.Else4 → tie.After-field
@@ -172,8 +172,8 @@ fill-read c = c.before
 abbrev head-4 : tie.Else4 → tie.After-head-of
 head-4 c = head-3 (length-passed (end-found (fill-read c)))
 
-fill-zero : (c : tie.Else4) → any (eqb 1) (fill-of (bytes-at (head-4 c))) ≡ false
-fill-zero c = padding (fill-read c) ∙ ap (λ n. not (eqb n 0)) c.if4.false
+fill_zero : (c : tie.Else4) → any (eqb 1) (fill_of (bytes-at (head-4 c))) ≡ false
+fill_zero c = padding (fill-read c) ∙ ap (λ n. not (eqb n 0)) c.if4.false
 
 head-ok-4 : (c : tie.Else4) → HeadAccepted (head-4 c).head_of.result
 head-ok-4 c = head-ok-3 (length-passed (end-found (fill-read c)))
@@ -187,9 +187,9 @@ fill-passed c = c.before
 numbers-refusal-requires : tie.Need-numbers-refusal-requires
 unfolding bit_length
 numbers-refusal-requires c κs =
-    let limits = head-facts _ (head-ok-4 (fill-passed c)) in
+    let limits = head_facts _ (head-ok-4 (fill-passed c)) in
     let end = end-found (fill-read (fill-passed c)) in
-    omega (arith, c.row-length.ensures, ends end, end.bit_length.ensures)
+    omega (arith, c.row_length.ensures, ends end, end.bit_length.ensures)
 
 abbrev row-counted : tie.After-numbers-refusal → tie.After-row-length
 row-counted c = c.before
@@ -197,20 +197,20 @@ row-counted c = c.before
 abbrev read-bytes : tie.After-numbers-refusal → List ℕ
 read-bytes c = bytes-at (head-4 (fill-passed (row-counted c)))
 
-count-is : (c : tie.After-numbers-refusal) → (row-counted c).row-length.result ≡ row-length (head_of (read-bytes c))
-count-is c = (row-counted c).row-length.ensures ∙ ap row-length (head-4 (fill-passed (row-counted c))).head_of.ensures
+count_is : (c : tie.After-numbers-refusal) → (row-counted c).row_length.result ≡ row_length (head_of (read-bytes c))
+count_is c = (row-counted c).row_length.ensures ∙ ap row_length (head-4 (fill-passed (row-counted c))).head_of.ensures
 
 -- the refusal of the plan that the bytes mean
 numbers-number :
     (c : tie.After-numbers-refusal)
-    → c.numbers-refusal.result ≡ plan-refusal (head_of (read-bytes c)) (row_of (read-bytes c))
+    → c.numbers_refusal.result ≡ plan_refusal (head_of (read-bytes c)) (row_of (read-bytes c))
 unfolding row_of
 numbers-number c =
-    c.numbers-refusal.ensures
+    c.numbers_refusal.ensures
     ∙ ap₂
-    (λ h n. plan-refusal h (fields number-width n (drop head-bits (bits_of (read-bytes c)))))
+    (λ h n. plan_refusal h (fields number_width n (drop head_bits (bits_of (read-bytes c)))))
     (head-4 (fill-passed (row-counted c))).head_of.ensures
-    (count-is c)
+    (count_is c)
 
 abbrev room_at : tie.After-numbers-refusal → ℕ
 room_at c = (start (short-passed (head-4 (fill-passed (row-counted c))))).args.room
@@ -218,16 +218,16 @@ room_at c = (start (short-passed (head-4 (fill-passed (row-counted c))))).args.r
 -- the numbers and the room are left to decide
 rest :
     (c : tie.After-numbers-refusal)
-    → read-refusal (read-bytes c) (room_at c)
+    → read_refusal (read-bytes c) (room_at c)
     ≡ cond
-    (eqb c.numbers-refusal.result 0)
-    (cond (ltb (room_at c) (row-counted c).row-length.result) 11 0)
-    c.numbers-refusal.result
+    (eqb c.numbers_refusal.result 0)
+    (cond (ltb (room_at c) (row-counted c).row_length.result) 11 0)
+    c.numbers_refusal.result
 rest c =
     let passed = fill-passed (row-counted c) in
     let length-ok = length-passed (end-found (fill-read passed)) in
-    read-rest _ _ (head-whole (head-4 passed)) (head_ok (head_passed (bytes_counted length-ok))) (length-is length-ok) (fill-zero passed)
-    ∙ ap₂ (λ n k. cond (eqb n 0) (cond (ltb (room_at c) k) 11 0) n) (sym (numbers-number c)) (sym (count-is c))
+    read_rest _ _ (head-whole (head-4 passed)) (head_ok (head_passed (bytes_counted length-ok))) (length_is length-ok) (fill_zero passed)
+    ∙ ap₂ (λ n k. cond (eqb n 0) (cond (ltb (room_at c) k) 11 0) n) (sym (numbers-number c)) (sym (count_is c))
 
 returns-5 : tie.Need-returns-5
 returns-5 c = sym (rest c.before ∙ rw (ne_eqb _ 0 c.if5.true))
@@ -238,8 +238,8 @@ numbers-checked c = c.before
 -- only the room is left
 room-left :
     (c : tie.Else5)
-    → read-refusal (read-bytes (numbers-checked c)) (room_at (numbers-checked c))
-    ≡ cond (ltb (room_at (numbers-checked c)) (row-counted (numbers-checked c)).row-length.result) 11 0
+    → read_refusal (read-bytes (numbers-checked c)) (room_at (numbers-checked c))
+    ≡ cond (ltb (room_at (numbers-checked c)) (row-counted (numbers-checked c)).row_length.result) 11 0
 room-left c = rest (numbers-checked c) ∙ rw (eq-eqb _ 0 c.if5.false)
 
 returns-6 : tie.Need-returns-6

@@ -4,16 +4,16 @@ use mathlib.Core.Path.{ap, ◌∙◌}
 use native.Mathlib.Omega.{arith}
 use borrow.Author.Rules.{rules}
 use lib.ListN.{length, take, drop, length-set}
-use Rattle.model.specs.Format.{number, fields, filled-bits, bytes_of}
-use Rattle.model.proofs.Facts.{accepted-head}
-use Rattle.model.proofs.Rooms.{byte-length-fits, longest-between}
-use Rattle.model.proofs.Filling.{Filling, filling-none, filling-more, filling-done}
-use Rattle.plan_bits.proofs.Fields.{fields-are}
+use Rattle.model.specs.Format.{number, fields, filled_bits, bytes_of}
+use Rattle.model.proofs.Facts.{accepted_head}
+use Rattle.model.proofs.Rooms.{byte_length_fits, longest_between}
+use Rattle.model.proofs.Filling.{Filling, filling_none, filling_more, filling_done}
+use Rattle.plan_bits.proofs.Fields.{fields_are}
 use Rattle.plan_bits.proofs.writing.encode.Statement.{statement}
 use Rattle.plan_bits.proofs.writing.encode.Tie as tie
 
 abbrev invariant-loop : tie.invariant-loop
-invariant-loop head row bytes₀ i₀ bytes i = Filling (λ k. number (take 8 (drop (8 * k) (filled-bits head row)))) bytes₀ bytes i
+invariant-loop head row bytes₀ i₀ bytes i = Filling (λ k. number (take 8 (drop (8 * k) (filled_bits head row)))) bytes₀ bytes i
 
 abbrev decreases-loop : tie.decreases-loop
 decreases-loop head row bytes₀ i₀ bytes i = length bytes - i
@@ -22,10 +22,10 @@ abbrev start : tie.At-loop invariant-loop decreases-loop → tie.Start invariant
 start c = c.before.before.before
 
 loop-holds : tie.Need-loop-init invariant-loop decreases-loop
-loop-holds c = filling-none _ _
+loop-holds c = filling_none _ _
 
 mul-byte : tie.Need-overflow-mul-byte invariant-loop decreases-loop
-mul-byte c = omega (arith, longest-between, byte-length-fits _ (accepted-head _ _ (start c.before).pre.0))
+mul-byte c = omega (arith, longest_between, byte_length_fits _ (accepted_head _ _ (start c.before).pre.0))
 
 byte-requires : tie.Need-byte-requires invariant-loop decreases-loop
 byte-requires c κs = ((start c.before).pre.0, omega arith)
@@ -40,7 +40,7 @@ loop-less : tie.Need-loop-smaller invariant-loop decreases-loop
 loop-less c = simp length-set (omega arith)
 
 loop-again : tie.Need-loop-preserved invariant-loop decreases-loop
-loop-again c = filling-more _ _ _ _ c.before.before.loop.invariant _ c.before.loop-test.true c.byte.ensures
+loop-again c = filling_more _ _ _ _ c.before.before.loop.invariant _ c.before.loop-test.true c.byte.ensures
 
 same_length : tie.Need-same-length invariant-loop decreases-loop
 same_length c = c.before.loop.invariant.same
@@ -48,9 +48,9 @@ same_length c = c.before.loop.invariant.same
 returns : tie.Need-returns invariant-loop decreases-loop
 unfolding bytes_of
 returns c =
-    filling-done _ _ _ _ c.before.loop.invariant c.loop-test.false
-    ∙ fields-are 8 _ _
-    ∙ ap (λ n. fields 8 n (filled-bits (start c.before).args.head (start c.before).args.row.now)) (start c.before).pre.1
+    filling_done _ _ _ _ c.before.loop.invariant c.loop-test.false
+    ∙ fields_are 8 _ _
+    ∙ ap (λ n. fields 8 n (filled_bits (start c.before).args.head (start c.before).args.row.now)) (start c.before).pre.1
 
 pub encode-spec : {M : Type 1} → statement M
 encode-spec =

@@ -5,9 +5,9 @@ use mathlib.Core.Bool.{cond}
 use borrow.Author.Rules.{rules}
 use borrow.Author.Tests.{lt-ltb, le-ltb}
 use lib.Dec.{ltb}
-use Rattle.model.specs.Refusal.{Accepted, write-refusal}
-use Rattle.model.proofs.Facts.{accepted-head}
-use Rattle.plan_bits.proofs.RefusalLaws.{write-refused, write-room}
+use Rattle.model.specs.Refusal.{Accepted, write_refusal}
+use Rattle.model.proofs.Facts.{accepted_head}
+use Rattle.plan_bits.proofs.RefusalLaws.{write_refused, write_room}
 use Rattle.plan_bits.proofs.writing.refusal.Statement.{statement}
 use Rattle.plan_bits.proofs.writing.refusal.Tie as tie
 
@@ -19,14 +19,14 @@ plan-refusal-requires c κs = search rules
 
 returns : tie.Need-returns
 returns c =
-    c.before.plan-refusal.ensures
-    ∙ sym (write-refused _ _ _ (λ e. c.if1.true (c.before.plan-refusal.ensures ∙ e)))
+    c.before.plan_refusal.ensures
+    ∙ sym (write_refused _ _ _ (λ e. c.if1.true (c.before.plan_refusal.ensures ∙ e)))
 
 accepted : (c : tie.Else1) → Accepted (start c).args.head (start c).args.row.now
-accepted c = sym c.before.plan-refusal.ensures ∙ c.if1.false
+accepted c = sym c.before.plan_refusal.ensures ∙ c.if1.false
 
 byte-length-requires : tie.Need-byte-length-requires
-byte-length-requires c κs = accepted-head _ _ (accepted c)
+byte-length-requires c κs = accepted_head _ _ (accepted c)
 
 abbrev room_at : tie.After-byte-length → ℕ
 room_at c = (start c.before).args.room
@@ -34,10 +34,10 @@ room_at c = (start c.before).args.room
 -- only the room is left
 room-left :
     (c : tie.After-byte-length)
-    → write-refusal (start c.before).args.head (start c.before).args.row.now (room_at c)
-    ≡ cond (ltb (room_at c) c.byte-length.result) 11 0
+    → write_refusal (start c.before).args.head (start c.before).args.row.now (room_at c)
+    ≡ cond (ltb (room_at c) c.byte_length.result) 11 0
 room-left c =
-    write-room _ _ _ (accepted c.before) ∙ ap (λ n. cond (ltb (room_at c) n) 11 0) (sym c.byte-length.ensures)
+    write_room _ _ _ (accepted c.before) ∙ ap (λ n. cond (ltb (room_at c) n) 11 0) (sym c.byte_length.ensures)
 
 returns-2 : tie.Need-returns-2
 returns-2 c = sym (room-left c.before ∙ rw (lt-ltb _ _ c.if2.true))

@@ -2,7 +2,7 @@
 use mathlib.Core.Path.{sym, ap, ◌∙◌}
 use native.Mathlib.Omega.{arith}
 use borrow.Author.Tests.{ltb-false}
-use Rattle.model.specs.Limits.{max-claims, max-level}
+use Rattle.model.specs.Limits.{max_claims, max_level}
 use Rattle.model.specs.Refusal.{outside}
 use Rattle.questions.specs.Needs.{shape_of}
 use borrow.Author.Rules.{rules}
@@ -17,14 +17,14 @@ enum-known-question c = search rules
 
 add-t8 : tie.Need-overflow-add-t8
 unfolding outside
-add-t8 c = omega (arith, ltb-false max-claims c.before.question.given.0.0 (sym (ap outside c.before.question.given.1) ∙ c.before.before.before.requires))
+add-t8 c = omega (arith, ltb-false max_claims c.before.question.given.0.0 (sym (ap outside c.before.question.given.1) ∙ c.before.before.before.requires))
 
 enum-known-question-2 : tie.Need-enum-known-question-2
 enum-known-question-2 c = search rules
 
 add-t9 : tie.Need-overflow-add-t9
 unfolding outside
-add-t9 c = omega (arith, ltb-false max-level c.before.question2.given.0.0 (sym (ap outside c.before.question2.given.1) ∙ c.before.before.before.requires))
+add-t9 c = omega (arith, ltb-false max_level c.before.question2.given.0.0 (sym (ap outside c.before.question2.given.1) ∙ c.before.before.before.requires))
 
 enum-known-question-3 : tie.Need-enum-known-question-3
 enum-known-question-3 c = search rules

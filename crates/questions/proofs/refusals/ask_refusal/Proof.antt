@@ -2,7 +2,7 @@
 use mathlib.Core.Path.{sym, ap, ◌∙◌}
 use native.Mathlib.Omega.{arith}
 use borrow.Author.Rules.{rules}
-use Rattle.model.specs.Refusal.{workspace-needed, bounds-refusal}
+use Rattle.model.specs.Refusal.{workspace_needed, bounds_refusal}
 use Rattle.questions.proofs.refusals.ask_refusal.Statement.{statement}
 use Rattle.questions.proofs.refusals.ask_refusal.Tie as tie
 
@@ -16,8 +16,8 @@ returns : tie.Need-returns
 returns c =
     let asked = c.before in
     let a = asked.before.before.args in
-    c.bounds-refusal.ensures
-    ∙ ap (λ o. bounds-refusal a.ask.head a.row.now (10, o) (workspace-needed a.ask) a.room) asked.is-outside.ensures
+    c.bounds_refusal.ensures
+    ∙ ap (λ o. bounds_refusal a.ask.head a.row.now (10, o) (workspace_needed a.ask) a.room) asked.is-outside.ensures
 
 pub ask-refusal-spec : {M : Type 1} → statement M
 ask-refusal-spec = tie.close (tie.spec is-outside-requires bounds-refusal-requires returns)

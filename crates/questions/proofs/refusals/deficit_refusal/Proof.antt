@@ -2,7 +2,7 @@
 use mathlib.Core.Path.{refl, ap, ◌∙◌}
 use native.Mathlib.Omega.{arith}
 use borrow.Author.Rules.{rules}
-use Rattle.model.specs.Refusal.{outside, survival-workspace, bounds-refusal}
+use Rattle.model.specs.Refusal.{outside, survival_workspace, bounds_refusal}
 use Rattle.questions.proofs.refusals.deficit_refusal.Statement.{statement}
 use Rattle.questions.proofs.refusals.deficit_refusal.Tie as tie
 
@@ -17,8 +17,8 @@ returns : tie.Need-returns
 returns c =
     let asked = c.before in
     let a = asked.before.before.args in
-    c.bounds-refusal.ensures
-    ∙ ap (λ o. bounds-refusal a.head a.row.now (10, o) (survival-workspace a.head) a.room) asked.deficit-is-outside.ensures
+    c.bounds_refusal.ensures
+    ∙ ap (λ o. bounds_refusal a.head a.row.now (10, o) (survival_workspace a.head) a.room) asked.deficit-is-outside.ensures
 
 pub deficit-refusal-spec : {M : Type 1} → statement M
 deficit-refusal-spec = tie.close (tie.spec deficit-is-outside-requires bounds-refusal-requires returns)

@@ -1,6 +1,6 @@
 -- `answers::bounds_of` meets its contract: on an accepted plan, within the limits and with enough workspace, the engine does not refuse. Assumes nothing.
 use mathlib.Core.Path.{◌∙◌, ap}
-use Rattle.report_lines.proofs.AskingLaws.{asked, asked-leaves}
+use Rattle.report_lines.proofs.AskingLaws.{asked, asked_leaves}
 use borrow.Author.Rules.{rules}
 use Rattle.report_lines.proofs.answers.bounds_of.Statement.{statement}
 use Rattle.report_lines.proofs.answers.bounds_of.Tie as tie
@@ -20,7 +20,7 @@ returns c =
     let ask = answered.ask.ensures in
     let pre = (start answered).requires in
     let answer = ask.0 ∙ asked pre.0 _ pre.1 in
-    (ap (λ a. record { lower = a.lower; upper = a.upper }) answer, ask.1.0 ∙ asked-leaves pre.0 _ pre.1)
+    (ap (λ a. record { lower = a.lower; upper = a.upper }) answer, ask.1.0 ∙ asked_leaves pre.0 _ pre.1)
 
 pub bounds-of-spec : {M : Type 1} → statement M
 bounds-of-spec = tie.close (tie.spec ask-requires same_length returns)

@@ -1,6 +1,6 @@
 -- `lines::put_bounds` meets its contract, by the question's cases. Assumes nothing.
 use borrow.Author.Rules.{rules}
-use Rattle.text.proofs.TextLaws.{line-fits}
+use Rattle.text.proofs.TextLaws.{line_fits}
 use Rattle.report_lines.proofs.lines.put_bounds.Statement.{statement}
 use Rattle.report_lines.proofs.lines.put_bounds.Tie as tie
 
@@ -27,7 +27,7 @@ slice-aggregate-put-line-2 : tie.Need-slice-aggregate-put-line-2
 slice-aggregate-put-line-2 c = search rules
 
 put-line-requires : tie.Need-put-line-requires
-put-line-requires c κs = line-fits _ _ _ _ (search rules)
+put-line-requires c κs = line_fits _ _ _ _ (search rules)
 
 enum-known-question : tie.Need-enum-known-question
 enum-known-question c = search rules

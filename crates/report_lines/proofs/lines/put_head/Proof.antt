@@ -4,8 +4,8 @@ use mathlib.Core.Path.{◌≡◌, ◌∙◌}
 use native.Mathlib.Omega.{arith}
 use borrow.Author.Rules.{rules}
 use lib.ListN.{length}
-use Rattle.text.proofs.TextLaws.{appended-more, entry-fits, line-fits, entry-ends}
-use Rattle.report_lines.specs.Lines.{head-line}
+use Rattle.text.proofs.TextLaws.{appended_more, entry_fits, line_fits, entry_ends}
+use Rattle.report_lines.specs.Lines.{head_line}
 use Rattle.report_lines.proofs.lines.put_head.Statement.{statement}
 use Rattle.report_lines.proofs.lines.put_head.Tie as tie
 
@@ -26,7 +26,7 @@ slice-aggregate-put-entry-2 : tie.Need-slice-aggregate-put-entry-2
 slice-aggregate-put-entry-2 c = search rules
 
 put-entry-requires : tie.Need-put-entry-requires
-put-entry-requires c κs = entry-fits _ _ _ _ (search rules)
+put-entry-requires c κs = entry_fits _ _ _ _ (search rules)
 
 slice-aggregate-put-entry-3 : tie.Need-slice-aggregate-put-entry-3
 slice-aggregate-put-entry-3 c = search rules
@@ -36,7 +36,7 @@ slice-aggregate-put-entry-4 c = search rules
 
 put-entry-requires-2 : tie.Need-put-entry-requires-2
 put-entry-requires-2 c κs =
-    entry-fits _ _ _ _ (omega (arith, entry-ends _ _ (months c).put-entry.ensures, (months c).put-entry.auto.0))
+    entry_fits _ _ _ _ (omega (arith, entry_ends _ _ (months c).put-entry.ensures, (months c).put-entry.auto.0))
 
 slice-aggregate-put-entry-5 : tie.Need-slice-aggregate-put-entry-5
 slice-aggregate-put-entry-5 c = search rules
@@ -55,10 +55,10 @@ two-entries :
 two-entries c =
     let first = (months c.before).put-entry in
     let second = c.put-entry2 in
-    (omega (arith, entry-ends _ _ first.ensures, entry-ends _ _ second.ensures), second.auto.0 ∙ first.kept.0)
+    (omega (arith, entry_ends _ _ first.ensures, entry_ends _ _ second.ensures), second.auto.0 ∙ first.kept.0)
 
 put-entry-requires-3 : tie.Need-put-entry-requires-3
-put-entry-requires-3 c κs = entry-fits _ _ _ _ (omega (arith, two-entries (opening c), (start (opening c)).requires))
+put-entry-requires-3 c κs = entry_fits _ _ _ _ (omega (arith, two-entries (opening c), (start (opening c)).requires))
 
 slice-aggregate-put-line : tie.Need-slice-aggregate-put-line
 slice-aggregate-put-line c = search rules
@@ -70,19 +70,19 @@ put-line-requires : tie.Need-put-line-requires
 put-line-requires c κs =
     let third = (sizes c).put-entry3 in
     let earlier = opening (sizes c).before in
-    line-fits _ _ _ _ (omega (arith, two-entries earlier, entry-ends _ _ third.ensures, third.kept.0, (start earlier).pre))
+    line_fits _ _ _ _ (omega (arith, two-entries earlier, entry_ends _ _ third.ensures, third.kept.0, (start earlier).pre))
 
 same_length : tie.Need-same-length
 same_length c = search rules
 
 returns : tie.Need-returns
-unfolding head-line
+unfolding head_line
 returns c =
     let last = c.before.before in
     let third = sizes last.before in
     let second = opening third.before in
     let first = months second.before in
-    appended-more (appended-more (appended-more first.put-entry.ensures second.put-entry2.ensures) third.put-entry3.ensures) last.put-line.ensures
+    appended_more (appended_more (appended_more first.put-entry.ensures second.put-entry2.ensures) third.put-entry3.ensures) last.put-line.ensures
 
 pub put-head-spec : {M : Type 1} → statement M
 put-head-spec =

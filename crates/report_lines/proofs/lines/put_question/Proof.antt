@@ -1,7 +1,7 @@
 -- `lines::put_question` meets its contract: the bounds of the line are those that the engine answers. Assumes nothing.
 use mathlib.Core.Path.{ap}
 use borrow.Author.Rules.{rules}
-use Rattle.report_lines.specs.Lines.{question-line}
+use Rattle.report_lines.specs.Lines.{question_line}
 use Rattle.report_lines.proofs.lines.put_question.Statement.{statement}
 use Rattle.report_lines.proofs.lines.put_question.Tie as tie
 
@@ -28,7 +28,7 @@ same-length-2 : tie.Need-same-length-2
 same-length-2 c = search rules
 
 returns : tie.Need-returns
-unfolding question-line
+unfolding question_line
 returns c =
     let put = c.before.before in
     let asked = (bounds put.before).bounds_of.ensures in

@@ -1,5 +1,5 @@
 -- `lines::put_refused` meets its contract: there is room for any line. Assumes nothing.
-use Rattle.text.proofs.TextLaws.{line-fits}
+use Rattle.text.proofs.TextLaws.{line_fits}
 use borrow.Author.Rules.{rules}
 use Rattle.report_lines.proofs.lines.put_refused.Statement.{statement}
 use Rattle.report_lines.proofs.lines.put_refused.Tie as tie
@@ -11,7 +11,7 @@ slice-aggregate-put-line-2 : tie.Need-slice-aggregate-put-line-2
 slice-aggregate-put-line-2 c = search rules
 
 put-line-requires : tie.Need-put-line-requires
-put-line-requires c κs = line-fits _ _ _ _ (search rules)
+put-line-requires c κs = line_fits _ _ _ _ (search rules)
 
 same_length : tie.Need-same-length
 same_length c = search rules

@@ -4,7 +4,7 @@ use mathlib.Core.Bool.{cond}
 use borrow.Author.Rules.{rules}
 use lib.Dec.{eqb}
 use Rattle.sheet_values.specs.declared.ChanceRule.TheVariants.{Level, Ramp}
-use Rattle.sheet_values.specs.Sheet.{number_at, sheet-rule, sheet-of}
+use Rattle.sheet_values.specs.Sheet.{number_at, sheet_rule, sheet_of}
 use Rattle.sheet_values.proofs.bytes.sheet_of.Statement.{statement}
 use Rattle.sheet_values.proofs.bytes.sheet_of.Tie as tie
 
@@ -37,13 +37,13 @@ abbrev numbers-read : tie.After-rule-of → tie.After-big-endian4
 numbers-read c = c.before.before.before.before
 
 returns : tie.Need-returns
-unfolding sheet-of sheet-rule number_at
+unfolding sheet_of sheet_rule number_at
 returns c =
     let numbers = numbers-read c in
     let kind = numbers.before.before.before.big_endian.ensures.0 in
     let first = c.before.before.before.double.ensures in
     let step = c.before.before.double2.ensures in
-    let rule = c.rule-of.ensures ∙ (λ i. cond (eqb (kind i) 1) (Level (first i)) (Ramp (first i) (step i))) in
+    let rule = c.rule_of.ensures ∙ (λ i. cond (eqb (kind i) 1) (Level (first i)) (Ramp (first i) (step i))) in
     λ i. record {
       rule = rule i;
       months = numbers.before.before.big-endian2.ensures.0 i;

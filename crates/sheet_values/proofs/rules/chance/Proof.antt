@@ -6,7 +6,7 @@ use borrow.Author.Rules.{rules}
 use lib.Dec.{le→leb}
 use lib.Ieee.{in_float}
 use Rattle.sheet_values.specs.Rules.{chance}
-use Rattle.sheet_values.proofs.RuleLaws.{level-chance, ramp-chance}
+use Rattle.sheet_values.proofs.RuleLaws.{level_chance, ramp_chance}
 use Rattle.sheet_values.proofs.rules.chance.Statement.{statement}
 use Rattle.sheet_values.proofs.rules.chance.Tie as tie
 
@@ -27,12 +27,12 @@ int-to-float-result c =
 returns : tie.Need-returns
 returns c =
     let month = c.before.before.before.args.month in
-    sym (ap (λ rule. chance rule month) c.before.rule.given.1 ∙ level-chance _ month)
+    sym (ap (λ rule. chance rule month) c.before.rule.given.1 ∙ level_chance _ month)
 
 returns-2 : tie.Need-returns-2
 returns-2 c =
     let month = c.before.before.before.before.args.month in
-    sym (ap (λ rule. chance rule month) c.before.before.rule2.given.1 ∙ ramp-chance _ _ month)
+    sym (ap (λ rule. chance rule month) c.before.before.rule2.given.1 ∙ ramp_chance _ _ month)
 
 pub chance-spec : {M : Type 1} → statement M
 chance-spec =

@@ -5,10 +5,10 @@ use native.Mathlib.Numerals.{add-one}
 use native.Mathlib.Omega.{arith}
 use borrow.Author.Rules.{rules}
 use lib.ListN.{length, length-set}
-use Rattle.model.proofs.Filling.{Filling, filling-none, filling-more, filling-done, map-one-to}
+use Rattle.model.proofs.Filling.{Filling, filling_none, filling_more, filling_done, map_one_to}
 use Rattle.doubles.specs.Doubles.{parts}
 use Rattle.sheet_values.specs.Rules.{chance as Rules·chance, chances}
-use Rattle.sheet_values.proofs.RuleLaws.{chance-within}
+use Rattle.sheet_values.proofs.RuleLaws.{chance_within}
 use Rattle.sheet_values.proofs.rules.put_chances.Statement.{statement}
 use Rattle.sheet_values.proofs.rules.put_chances.Tie as tie
 
@@ -29,7 +29,7 @@ abbrev turn : tie.After-chance invariant-loop decreases-loop → tie.In-loop inv
 turn c = c.before
 
 loop-holds : tie.Need-loop-init invariant-loop decreases-loop
-loop-holds c = filling-none _ _
+loop-holds c = filling_none _ _
 
 add-chance : tie.Need-overflow-add-chance invariant-loop decreases-loop
 add-chance c = search rules
@@ -39,7 +39,7 @@ chance-requires c κs = omega arith
 
 parts-requires : tie.Need-parts-requires invariant-loop decreases-loop
 parts-requires c κs =
-    rw c.chance.ensures (chance-within _ _ (start (at-loop (turn c))).pre.1 (at-loop (turn c)).loop.i (omega arith))
+    rw c.chance.ensures (chance_within _ _ (start (at-loop (turn c))).pre.1 (at-loop (turn c)).loop.i (omega arith))
 
 mul-row : tie.Need-overflow-mul-row invariant-loop decreases-loop
 mul-row c = search rules
@@ -56,7 +56,7 @@ loop-less c = simp length-set (omega arith)
 loop-again : tie.Need-loop-preserved invariant-loop decreases-loop
 loop-again c =
     let before = at-loop (turn c.before) in
-    filling-more _ _ _ _ before.loop.inv _ (turn c.before).loop-test.taken
+    filling_more _ _ _ _ before.loop.inv _ (turn c.before).loop-test.taken
     (c.parts.ensures
     ∙ ap parts (c.before.chance.ensures ∙ ap (Rules·chance (start before).args.rule) (add-one before.loop.i)))
 
@@ -65,7 +65,7 @@ same_length c = c.before.loop.invariant.same
 
 returns : tie.Need-returns invariant-loop decreases-loop
 unfolding chances
-returns c = filling-done _ _ _ _ c.before.loop.invariant c.loop-test.false ∙ sym (map-one-to _ _)
+returns c = filling_done _ _ _ _ c.before.loop.invariant c.loop-test.false ∙ sym (map_one_to _ _)
 
 pub put-chances-spec : {M : Type 1} → statement M
 put-chances-spec =

@@ -7,9 +7,9 @@ use borrow.Author.Rules.{rules}
 use lib.ListN.{length, take, drop, length-append, length-take, length-drop}
 use lib.Seq.{length-take-le}
 use Rattle.sheet_values.specs.declared.RuleSheet.{RuleSheet}
-use Rattle.sheet_values.specs.Sheet.{sheet-head}
-use Rattle.sheet_values.specs.Rules.{chances, size-part, sheet-row}
-use Rattle.sheet_values.proofs.RuleLaws.{chances-length, rest-stored}
+use Rattle.sheet_values.specs.Sheet.{sheet_head}
+use Rattle.sheet_values.specs.Rules.{chances, size_part, sheet_row}
+use Rattle.sheet_values.proofs.RuleLaws.{chances_length, rest_stored}
 use Rattle.sheet_values.proofs.rules.put_row.Statement.{statement}
 use Rattle.sheet_values.proofs.rules.put_row.Tie as tie
 
@@ -25,11 +25,11 @@ row_at c = (start c).args.row.now
 
 -- the row has a place for each chance, and one more than there are sizes
 long : (c : tie.After-put-chances-arg) → length (row_at c) ≡ (sheet-at c).months + (sheet-at c).sizes + 1
-unfolding sheet-head
+unfolding sheet_head
 long c = (start c).requires.1
 
 slice-relend-prefix-put-chances : tie.Need-slice-relend-prefix-put-chances
-unfolding sheet-head
+unfolding sheet_head
 slice-relend-prefix-put-chances c = omega (arith, c.before.requires.1)
 
 lent_length : (c : tie.After-put-chances-arg) → length (take (sheet-at c).months (row_at c)) ≡ (sheet-at c).months
@@ -39,7 +39,7 @@ slice-aggregate-put-chances : tie.Need-slice-aggregate-put-chances
 slice-aggregate-put-chances c = sym (lent_length c)
 
 put-chances-requires : tie.Need-put-chances-requires
-put-chances-requires c κs = rw (lent_length c) ((start c).requires.0.months-fit, (start c).requires.0.chances-within)
+put-chances-requires c κs = rw (lent_length c) ((start c).requires.0.months_fit, (start c).requires.0.chances_within)
 
 mul-put-sizes : tie.Need-overflow-mul-put-sizes
 mul-put-sizes c = search rules
@@ -54,7 +54,7 @@ stored :
 stored c = c.before.before.put-chances.ensures ∙ ap (chances (sheet-at (lent c)).rule) (lent_length (lent c))
 
 stored-length : (c : tie.After-slice-known2) → length c.before.before.put-chances.new.1.0 ≡ (sheet-at (lent c)).months
-stored-length c = ap length (stored c) ∙ chances-length _ _
+stored-length c = ap length (stored c) ∙ chances_length _ _
 
 sub-put-sizes : tie.Need-overflow-sub-put-sizes
 sub-put-sizes c = simp length-append (omega (arith, stored-length c))
@@ -69,32 +69,32 @@ abbrev chances-stored : tie.After-put-sizes-arg → tie.After-slice-known2
 chances-stored c = c.before
 
 -- the part that is lent next has one number more than there are sizes
-rest-length :
+rest_length :
     (c : tie.After-put-sizes-arg) →
     let at-chances = chances-stored c in
     let n = (sheet-at (lent at-chances)).months in
     let row = at-chances.before.before.put-chances.last.1.0 ++ drop n (row_at (lent at-chances)) in
     length (take (length row - n) (drop n row)) ≡ (sheet-at (lent at-chances)).sizes + 1
-rest-length c = simp (length-take, length-drop, length-append) (omega (arith, stored-length (chances-stored c), long (lent (chances-stored c))))
+rest_length c = simp (length-take, length-drop, length-append) (omega (arith, stored-length (chances-stored c), long (lent (chances-stored c))))
 
 put-sizes-requires : tie.Need-put-sizes-requires
 put-sizes-requires c κs =
     let plan = (start (lent (chances-stored c))).requires.0 in
-    (omega (arith, rest-length c), omega (arith, rest-length c, plan.sizes-fit), plan.alpha-within)
+    (omega (arith, rest_length c), omega (arith, rest_length c, plan.sizes_fit), plan.alpha_within)
 
 same_length : tie.Need-same-length
 same_length c = search rules
 
 returns : tie.Need-returns
-unfolding sheet-row
+unfolding sheet_row
 returns c =
     let made = c.before.before in
     let at-chances = chances-stored made.before in
     let sheet = sheet-at (lent at-chances) in
-    let rest-is : made.put-sizes.new.1.0 ≡ size-part sheet.alpha sheet.sizes =
-    made.put-sizes.ensures ∙ ap (size-part sheet.alpha) (omega (arith, rest-length made.before)) in
-    rest-stored at-chances.before.before.put-chances.last.1.0 made.put-sizes.new.1.0 (row_at (lent at-chances)) _ (stored-length at-chances)
-    ∙ ap₂ ◌++◌ (stored at-chances) rest-is
+    let rest_is : made.put-sizes.new.1.0 ≡ size_part sheet.alpha sheet.sizes =
+    made.put-sizes.ensures ∙ ap (size_part sheet.alpha) (omega (arith, rest_length made.before)) in
+    rest_stored at-chances.before.before.put-chances.last.1.0 made.put-sizes.new.1.0 (row_at (lent at-chances)) _ (stored-length at-chances)
+    ∙ ap₂ ◌++◌ (stored at-chances) rest_is
 
 pub put-row-spec : {M : Type 1} → statement M
 put-row-spec =

@@ -10,8 +10,8 @@ use lib.Seq.{length-take-le}
 use Rattle.model.specs.Scale.{S}
 use Rattle.model.specs.Sums.{total}
 use Rattle.sheet_values.specs.Rules.{weights, tail}
-use Rattle.sheet_values.proofs.RuleLaws.{sizes-stored}
-use Rattle.sheet_values.proofs.GuardLaws.{weights-never-pass}
+use Rattle.sheet_values.proofs.RuleLaws.{sizes_stored}
+use Rattle.sheet_values.proofs.GuardLaws.{weights_never_pass}
 use Rattle.sheet_values.proofs.rules.put_sizes.Statement.{statement}
 use Rattle.sheet_values.proofs.rules.put_sizes.Tie as tie
 
@@ -53,7 +53,7 @@ summed c = c.weights-total.ensures
 
 -- they do not pass the scale
 fits : (c : tie.After-weights-total) → total (weights (alpha-at (lent c)) (length (row_at (lent c)) - 1)) ≤ S
-fits c = weights-never-pass (alpha-at (lent c)) (start (lent c)).requires.2 _ (start (lent c)).requires.1
+fits c = weights_never_pass (alpha-at (lent c)) (start (lent c)).requires.2 _ (start (lent c)).requires.1
 
 cast-row : tie.Need-overflow-cast-row
 unfolding S
@@ -80,7 +80,7 @@ returns c =
     let alpha = alpha-at (lent c) in
     let stored = c.before.before.before.put-weights.ensures ∙ ap (weights alpha) (lent_length (lent c)) in
     ap₂ (λ w v. set (w ++ drop m row) m v) stored (ap (λ t. S - t) (summed c))
-    ∙ sizes-stored alpha row m (omega (arith, (start (lent c)).requires.0))
+    ∙ sizes_stored alpha row m (omega (arith, (start (lent c)).requires.0))
 
 pub put-sizes-spec : {M : Type 1} → statement M
 put-sizes-spec =

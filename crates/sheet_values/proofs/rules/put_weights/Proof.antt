@@ -6,11 +6,11 @@ use native.Mathlib.Omega.{arith}
 use borrow.Author.Rules.{rules}
 use lib.Ieee.{binary64, sub, mul}
 use lib.ListN.{length, length-set}
-use Rattle.model.proofs.Filling.{Filling, filling-none, filling-more, filling-done, map-one-to}
+use Rattle.model.proofs.Filling.{Filling, filling_none, filling_more, filling_done, map_one_to}
 use Rattle.doubles.specs.Doubles.{parts}
-use Rattle.doubles.proofs.RangeLaws.{literal-one}
+use Rattle.doubles.proofs.RangeLaws.{literal_one}
 use Rattle.sheet_values.specs.Rules.{weight as Rules·weight, weights}
-use Rattle.sheet_values.proofs.RuleLaws.{weight-first, weight-next, weight-within}
+use Rattle.sheet_values.proofs.RuleLaws.{weight_first, weight_next, weight_within}
 use Rattle.sheet_values.proofs.rules.put_weights.Statement.{statement}
 use Rattle.sheet_values.proofs.rules.put_weights.Tie as tie
 
@@ -33,10 +33,10 @@ turn c = c.before
 
 loop-holds : tie.Need-loop-init invariant-loop decreases-loop
 loop-holds c =
-    (filling-none _ _, ap (λ o. sub binary64 o c.before.args.alpha) literal-one ∙ weight-first c.before.args.alpha)
+    (filling_none _ _, ap (λ o. sub binary64 o c.before.args.alpha) literal_one ∙ weight_first c.before.args.alpha)
 
 parts-requires : tie.Need-parts-requires invariant-loop decreases-loop
-parts-requires c κs = rw (at-loop c).loop.invariant.1 (weight-within _ (start (at-loop c)).pre ((at-loop c).loop.i + 1))
+parts-requires c κs = rw (at-loop c).loop.invariant.1 (weight_within _ (start (at-loop c)).pre ((at-loop c).loop.i + 1))
 
 mul-row : tie.Need-overflow-mul-row invariant-loop decreases-loop
 mul-row c = search rules
@@ -54,9 +54,9 @@ loop-again : tie.Need-loop-preserved invariant-loop decreases-loop
 loop-again c =
     let before = at-loop (turn c) in
     let alpha = (start before).args.alpha in (
-      filling-more _ _ _ _ before.loop.inv.0 _ (turn c).loop-test.true
+      filling_more _ _ _ _ before.loop.inv.0 _ (turn c).loop-test.true
           (c.parts.ensures ∙ ap parts (before.loop.inv.1 ∙ ap (Rules·weight alpha) (add-one before.loop.i))),
-      ap (λ w. mul binary64 w alpha) before.loop.inv.1 ∙ weight-next alpha before.loop.i,
+      ap (λ w. mul binary64 w alpha) before.loop.inv.1 ∙ weight_next alpha before.loop.i,
     )
 
 same_length : tie.Need-same-length invariant-loop decreases-loop
@@ -64,7 +64,7 @@ same_length c = c.before.loop.invariant.0.same
 
 returns : tie.Need-returns invariant-loop decreases-loop
 unfolding weights
-returns c = filling-done _ _ _ _ c.before.loop.invariant.0 c.loop-test.false ∙ sym (map-one-to _ _)
+returns c = filling_done _ _ _ _ c.before.loop.invariant.0 c.loop-test.false ∙ sym (map_one_to _ _)
 
 pub put-weights-spec : {M : Type 1} → statement M
 put-weights-spec =

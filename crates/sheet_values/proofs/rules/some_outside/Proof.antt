@@ -6,7 +6,7 @@ use native.Mathlib.Numerals.{add-one}
 use native.Mathlib.Omega.{arith}
 use borrow.Author.Count.{below_none, below_more}
 use borrow.Author.Rules.{rules}
-use Rattle.model.proofs.SumLaws.{none-to, some_to}
+use Rattle.model.proofs.SumLaws.{none_to, some_to}
 use Rattle.doubles.specs.Doubles.{within}
 use Rattle.sheet_values.specs.declared.ChanceRule.{ChanceRule}
 use Rattle.sheet_values.specs.Rules.{chance as Rules·chance}
@@ -68,7 +68,7 @@ loop-again c =
 returns-2 : tie.Need-returns-2 invariant-loop decreases-loop
 returns-2 c =
     let end = c.before in
-    sym (none-to _ (outside end.before.args.rule) (λ k l. end.loop.invariant.1 k (omega (arith, c.loop-test.false))))
+    sym (none_to _ (outside end.before.args.rule) (λ k l. end.loop.invariant.1 k (omega (arith, c.loop-test.false))))
 
 pub some-outside-spec : {M : Type 1} → statement M
 some-outside-spec =

@@ -4,8 +4,8 @@ use mathlib.Core.Path.{◌≡◌, ap, ◌∙◌}
 use borrow.Author.Rules.{rules}
 use lib.Ieee.{binary64, sub}
 use Rattle.doubles.specs.Doubles.{parts}
-use Rattle.doubles.proofs.RangeLaws.{literal-one}
-use Rattle.sheet_values.proofs.RuleLaws.{Summing, summing-none, summing-more, summing-done, next-within, summing-fits}
+use Rattle.doubles.proofs.RangeLaws.{literal_one}
+use Rattle.sheet_values.proofs.RuleLaws.{Summing, summing_none, summing_more, summing_done, next_within, summing_fits}
 use Rattle.sheet_values.proofs.rules.weights_total.Statement.{statement}
 use Rattle.sheet_values.proofs.rules.weights_total.Tie as tie
 
@@ -23,10 +23,10 @@ abbrev turn : tie.After-wide invariant-loop decreases-loop → tie.In-loop invar
 turn c = c.before.before
 
 loop-holds : tie.Need-loop-init invariant-loop decreases-loop
-loop-holds c = summing-none _ _ _ (ap (λ o. sub binary64 o c.args.alpha) literal-one)
+loop-holds c = summing_none _ _ _ (ap (λ o. sub binary64 o c.args.alpha) literal_one)
 
 parts-requires : tie.Need-parts-requires invariant-loop decreases-loop
-parts-requires c κs = next-within _ _ _ _ _ (at-loop c).loop.invariant (at-loop c).before.requires.0
+parts-requires c κs = next_within _ _ _ _ _ (at-loop c).loop.invariant (at-loop c).before.requires.0
 
 wide-requires : tie.Need-wide-requires invariant-loop decreases-loop
 wide-requires c κs = search rules
@@ -40,7 +40,7 @@ add-sum c =
     let before = at-loop (turn c) in
     record {
       fits =
-          summing-fits _ _ _ _ _ before.loop.inv before.before.pre.0 before.before.pre.1 _ (value c) (turn c).loop-test.true;
+          summing_fits _ _ _ _ _ before.loop.inv before.before.pre.0 before.before.pre.1 _ (value c) (turn c).loop-test.true;
     }
 
 add-passed : tie.Need-overflow-add-passed invariant-loop decreases-loop
@@ -50,10 +50,10 @@ loop-less : tie.Need-loop-smaller invariant-loop decreases-loop
 loop-less c = search rules
 
 loop-again : tie.Need-loop-preserved invariant-loop decreases-loop
-loop-again c = summing-more _ _ _ _ _ (at-loop (turn c)).loop.inv _ (value c) (turn c).loop-test.true
+loop-again c = summing_more _ _ _ _ _ (at-loop (turn c)).loop.inv _ (value c) (turn c).loop-test.true
 
 returns : tie.Need-returns invariant-loop decreases-loop
-returns c = summing-done _ _ _ _ _ c.before.loop.invariant c.loop-test.false
+returns c = summing_done _ _ _ _ _ c.before.loop.invariant c.loop-test.false
 
 pub weights-total-spec : {M : Type 1} → statement M
 weights-total-spec =

@@ -7,15 +7,15 @@ use borrow.Author.Rules.{rules}
 use lib.ListN.{length, replicate}
 use Rattle.model.specs.declared.Rounding.{Rounding}
 use Rattle.model.specs.declared.Rounding.TheVariants.{Down, Up}
-use Rattle.model.specs.Levels.{largest-level}
+use Rattle.model.specs.Levels.{largest_level}
 use Rattle.model.specs.MonthRule.{all_placed}
 use Rattle.model.specs.Refusal.{outside}
-use Rattle.claims.specs.Values.{from-top}
-use Rattle.month_rows.specs.Shapes.{values-in}
+use Rattle.claims.specs.Values.{from_top}
+use Rattle.month_rows.specs.Shapes.{values_in}
 use Rattle.month_rule.specs.Months.{HalvesIn, TakenBack}
-use Rattle.questions.specs.Survival.{survival-row}
-use Rattle.survival.proofs.PairLaws.{pairs-agree}
-use Rattle.questions.proofs.SurvivalLaws.{OneRow, one-row, back_is}
+use Rattle.questions.specs.Survival.{survival_row}
+use Rattle.survival.proofs.PairLaws.{pairs_agree}
+use Rattle.questions.proofs.SurvivalLaws.{OneRow, one_row, back_is}
 use Rattle.survival.proofs.rows.put_openings.Statement.{statement}
 use Rattle.survival.proofs.rows.put_openings.Tie as tie
 
@@ -28,8 +28,8 @@ record Halves (half opening levels room : ℕ) : Type 0 where
   levels-inside : levels < half
   whole : room ≡ 2 * half
 
-halves : (c : tie.Start) → let a = c.args in Halves (half_of c) a.opening (largest-level a.income a.opening (length a.chances.now)) (length a.workspace.now)
-unfolding largest-level
+halves : (c : tie.Start) → let a = c.args in Halves (half_of c) a.opening (largest_level a.income a.opening (length a.chances.now)) (length a.workspace.now)
+unfolding largest_level
 halves c = record { opening-inside = omega arith; levels-inside = omega arith; whole = c.requires.1.0.1 }
 
 mul-half : tie.Need-overflow-mul-half
@@ -62,7 +62,7 @@ abbrev stored : tie.After-fill → tie.After-put-pairs
 stored c = c.before.before.before.before
 
 one : (c : tie.After-shape-of) → OneRow c.shape_of.result (half_of (start c)) (start c).args.income
-one c = one-row c.shape_of.result (half_of (start c)) (start c).args.income c.shape_of.ensures
+one c = one_row c.shape_of.result (half_of (start c)) (start c).args.income c.shape_of.ensures
 
 last-halves-requires : tie.Need-last-halves-requires
 last-halves-requires c κs =
@@ -75,7 +75,7 @@ halves-back-requires c κs =
     let shape = shaped last in
     let from = start shape in
     let rows : HalvesIn shape.shape_of.result last.last-halves.new.0 =
-    record { some = (one shape).some; income-some = rw (one shape).earns from.pre.1.0.0; size = last.last-halves.auto.0 ∙ (halves from).whole ∙ ap (λ n. 2 * n) (sym (one shape).size); parts = last.last-halves.ensures.1.1 } in
+    record { some = (one shape).some; income_some = rw (one shape).earns from.pre.1.0.0; size = last.last-halves.auto.0 ∙ (halves from).whole ∙ ap (λ n. 2 * n) (sym (one shape).size); parts = last.last-halves.ensures.1.1 } in
     (rows, (rw (one shape).earns (omega (arith, (halves from).levels-inside, (one shape).wide)), from.pre.1.1))
 
 -- the workspace after the walk is as long as it was
@@ -102,11 +102,11 @@ half_is :
     (c : tie.After-halves-back) →
     let shape = shaped (placed c) in
     let a = (start shape).args in
-    let top = largest-level a.income a.opening (length a.chances.now) in
+    let top = largest_level a.income a.opening (length a.chances.now) in
     (round : Rounding) (last row : List ℕ) →
-    ((k : ℕ) → k < shape.shape_of.result.rows → (s : ℕ) → values-in shape.shape_of.result top last k s ≡ all_placed k s) →
+    ((k : ℕ) → k < shape.shape_of.result.rows → (s : ℕ) → values_in shape.shape_of.result top last k s ≡ all_placed k s) →
     TakenBack round a.severity.now shape.shape_of.result a.opening a.chances.now last row →
-    (v : ℕ) → v < a.opening + 1 → from-top a.opening row v ≡ survival-row round a.income a.severity.now a.chances.now v
+    (v : ℕ) → v < a.opening + 1 → from_top a.opening row v ≡ survival_row round a.income a.severity.now a.chances.now v
 half_is c round last row all-S back v l =
     let shape = shaped (placed c) in
     let a = (start shape).args in
@@ -121,10 +121,10 @@ returns c =
     let last = (placed back).last-halves in
     let shape = shaped (placed back) in
     let a = (start shape).args in
-    let top = largest-level a.income a.opening (length a.chances.now) in
+    let top = largest_level a.income a.opening (length a.chances.now) in
     let inside : top < shape.shape_of.result.width = omega (arith, (halves (start shape)).levels-inside, (one shape).wide) in (
       pairs.put-pairs.ensures
-          ∙ pairs-agree (a.opening + 1) _ _ _ _
+          ∙ pairs_agree (a.opening + 1) _ _ _ _
           (rw (one shape).size at (half_is back Down _ _ (last.ensures.0 top inside) back.halves-back.ensures.0))
           (rw (one shape).size at (half_is back Up _ _ (last.ensures.1.0 top inside) back.halves-back.ensures.1)),
       cleared.fill.ensures ∙ ap (λ n. replicate n 0) (back.halves-back.kept.0 ∙ last.kept.0),

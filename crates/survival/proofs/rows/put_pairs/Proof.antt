@@ -6,15 +6,15 @@ use borrow.Author.Rules.{rules}
 use borrow.Rule.Slice.PartMut.{mid_of}
 use lib.ListN.{length, get_or, take, drop, length-drop, length-set}
 use lib.Seq.{take_all, length-take-le}
-use Rattle.model.proofs.Filling.{Filling, filling-none}
-use Rattle.claims.specs.Values.{from-top}
-use Rattle.survival.proofs.PairLaws.{paired, pair-more, pairs-done}
+use Rattle.model.proofs.Filling.{Filling, filling_none}
+use Rattle.claims.specs.Values.{from_top}
+use Rattle.survival.proofs.PairLaws.{paired, pair_more, pairs_done}
 use Rattle.survival.proofs.rows.put_pairs.Statement.{statement}
 use Rattle.survival.proofs.rows.put_pairs.Tie as tie
 
 abbrev invariant-loop : tie.invariant-loop
 invariant-loop pairs₀ halves half top level₀ pairs level =
-    Filling (paired (from-top top (take half halves)) (from-top top (drop half halves))) pairs₀ pairs (2 * level) × (level ≤ top + 1)
+    Filling (paired (from_top top (take half halves)) (from_top top (drop half halves))) pairs₀ pairs (2 * level) × (level ≤ top + 1)
 
 abbrev decreases-loop : tie.decreases-loop
 decreases-loop pairs₀ halves half top level₀ pairs level = top + 1 - level
@@ -30,11 +30,11 @@ abbrev first : tie.After-value-at2 invariant-loop decreases-loop → tie.After-v
 first c = c.before.before
 
 loop-holds : tie.Need-loop-init invariant-loop decreases-loop
-loop-holds c = (filling-none _ _, omega arith)
+loop-holds c = (filling_none _ _, omega arith)
 
 -- both halves as they are lent
-second-half : (c : tie.After-value-at invariant-loop decreases-loop) → let a = (start (turn c)).args in mid_of a.half (length a.halves.now - a.half) a.halves.now ≡ drop a.half a.halves.now
-second-half c =
+second_half : (c : tie.After-value-at invariant-loop decreases-loop) → let a = (start (turn c)).args in mid_of a.half (length a.halves.now - a.half) a.halves.now ≡ drop a.half a.halves.now
+second_half c =
     let a = (start (turn c)).args in
     take_all (length a.halves.now - a.half) (drop a.half a.halves.now) (omega (arith, length-drop a.half a.halves.now))
 
@@ -63,7 +63,7 @@ value-at-requires-2 : tie.Need-value-at-requires-2 invariant-loop decreases-loop
 value-at-requires-2 c κs =
     let one = c.before in
     let from = start (turn one) in
-    let size = ap length (second-half one) ∙ length-drop from.args.half from.args.halves.now in
+    let size = ap length (second_half one) ∙ length-drop from.args.half from.args.halves.now in
     (omega (arith, one.before.before.loop-test.true), omega (arith, size, from.pre.1.0, from.pre.1.1))
 
 mul-place : tie.Need-overflow-mul-place invariant-loop decreases-loop
@@ -99,10 +99,10 @@ loop-again c =
     let one = first c in
     let at = turn one in
     let a = (start at).args in
-    let low = from-top a.top (take a.half a.halves.now) in
-    let high = from-top a.top (drop a.half a.halves.now) in (
-      pair-more low high a.pairs.now at.loop.pairs at.loop.level at.loop.inv.0 one.value-at.result c.value-at2.result (room c) one.value-at.ensures
-          (c.value-at2.ensures ∙ ap (λ l. get_or l (a.top - at.loop.level) 0) (second-half one)),
+    let low = from_top a.top (take a.half a.halves.now) in
+    let high = from_top a.top (drop a.half a.halves.now) in (
+      pair_more low high a.pairs.now at.loop.pairs at.loop.level at.loop.inv.0 one.value-at.result c.value-at2.result (room c) one.value-at.ensures
+          (c.value-at2.ensures ∙ ap (λ l. get_or l (a.top - at.loop.level) 0) (second_half one)),
       omega arith,
     )
 
@@ -113,9 +113,9 @@ returns : tie.Need-returns invariant-loop decreases-loop
 returns c =
     let at = c.before in
     let a = (start at).args in
-    let low = from-top a.top (take a.half a.halves.now) in
-    let high = from-top a.top (drop a.half a.halves.now) in
-    pairs-done low high a.pairs.now at.loop.pairs at.loop.level at.loop.invariant.0 (a.top + 1) (start at).requires.0 (omega (arith, c.loop-test.false))
+    let low = from_top a.top (take a.half a.halves.now) in
+    let high = from_top a.top (drop a.half a.halves.now) in
+    pairs_done low high a.pairs.now at.loop.pairs at.loop.level at.loop.invariant.0 (a.top + 1) (start at).requires.0 (omega (arith, c.loop-test.false))
 
 pub put-pairs-spec : {M : Type 1} → statement M
 put-pairs-spec =

@@ -1,13 +1,13 @@
--- `least_lower` meets its contract: given up, no opening reaches the target (`none-reached`); otherwise the least is found in the row of the openings.
+-- `least_lower` meets its contract: given up, no opening reaches the target (`none_reached`); otherwise the least is found in the row of the openings.
 use Prim.Native.Nat.{◌<◌}
 use mathlib.Core.Path.{◌≡◌, refl, ap, ◌∙◌}
 use native.Mathlib.Nat.{le_refl}
 use native.Mathlib.Omega.{arith}
 use borrow.Author.Rules.{rules}
 use lib.ListN.{length, replicate}
-use Rattle.model.proofs.LevelLaws.{level-from}
+use Rattle.model.proofs.LevelLaws.{level_from}
 use Rattle.target_rows.specs.Rows.{Walk}
-use Rattle.target_rows.proofs.WalkLaws.{none-reached, found_none, found_some, openings-are, some-opening, least-is-same}
+use Rattle.target_rows.proofs.WalkLaws.{none_reached, found_none, found_some, openings_are, some_opening, least_is_same}
 use Rattle.target_rows.proofs.rows.least_lower.Statement.{statement}
 use Rattle.target_rows.proofs.rows.least_lower.Tie as tie
 
@@ -35,7 +35,7 @@ walk c = c.requires.0
 
 -- the opening lies within the row
 inside : (c : tie.Start) → c.args.opening < length c.args.row.now
-inside c = let a = c.args in omega (arith, (walk c).inside, level-from a.income a.opening a.opening (length a.chances.now) (le_refl a.opening))
+inside c = let a = c.args in omega (arith, (walk c).inside, level_from a.income a.opening a.opening (length a.chances.now) (le_refl a.opening))
 
 add-t17 : tie.Need-overflow-add-t17
 add-t17 c = omega (arith, inside (start (given-up c.before.before)))
@@ -51,7 +51,7 @@ returns c =
     let a = from.args in
     let walk-back = at-walk.lower-back in (
       found_none a.income a.severity.now a.opening a.chances.now a.target _ refl
-          (none-reached a.income a.severity.now a.opening a.chances.now a.target walk-back.result (walk from).terms from.pre.1.0 cleared.before.before.if1.true
+          (none_reached a.income a.severity.now a.opening a.chances.now a.target walk-back.result (walk from).terms from.pre.1.0 cleared.before.before.if1.true
           walk-back.ensures.0),
       cleared.fill.ensures ∙ ap (λ n. replicate n 0) walk-back.kept.0,
     )
@@ -68,7 +68,7 @@ found-in-requires c κs =
     let a = from.args in
     let walk-back = at-walk.lower-back in (
       omega (arith, inside from, walk-back.kept.0),
-      some-opening a.income a.severity.now a.opening a.chances.now a.target (length a.row.now) walk-back.result walk-back.last.0 (ended else1) (walk from).inside
+      some_opening a.income a.severity.now a.opening a.chances.now a.target (length a.row.now) walk-back.result walk-back.last.0 (ended else1) (walk from).inside
           walk-back.ensures.0 walk-back.ensures.1,
     )
 
@@ -90,10 +90,10 @@ returns-2 c =
     let least = found.found_in in (
       found_some a.income a.severity.now a.opening a.chances.now a.target least.result
           (least.ensures.0
-          ∙ least-is-same a.income a.severity.now a.opening a.chances.now a.target (length a.row.now) walk-back.result walk-back.last.0 (ended else1) (walk from).inside
+          ∙ least_is_same a.income a.severity.now a.opening a.chances.now a.target (length a.row.now) walk-back.result walk-back.last.0 (ended else1) (walk from).inside
           walk-back.ensures.0 walk-back.ensures.1)
           (least.ensures.1.0
-          ∙ openings-are a.income a.severity.now a.opening a.chances.now a.target (length a.row.now) walk-back.result walk-back.last.0 (ended else1) (walk from).inside
+          ∙ openings_are a.income a.severity.now a.opening a.chances.now a.target (length a.row.now) walk-back.result walk-back.last.0 (ended else1) (walk from).inside
           walk-back.ensures.0 walk-back.ensures.1 least.result.opening least.ensures.1.1)
           least.ensures.1.1,
       cleared.fill2.ensures ∙ ap (λ n. replicate n 0) walk-back.kept.0,

@@ -9,12 +9,12 @@ use lib.ListN.{length, get_or, drop, replicate}
 use Rattle.model.specs.declared.Rounding.TheVariants.{Down}
 use Rattle.model.specs.declared.Question.TheVariants.{Survive}
 use Rattle.model.specs.Scale.{S}
-use Rattle.model.specs.Levels.{largest-level}
+use Rattle.model.specs.Levels.{largest_level}
 use Rattle.model.specs.Refusal.{outside}
 use Rattle.month_rule.specs.Months.{TakenBack}
 use Rattle.questions.specs.Needs.{shape_of}
 use Rattle.target_rows.specs.Rows.{Walk}
-use Rattle.target_rows.proofs.WalkLaws.{Walking, rows_in, top_in, month-before, month-inside, walking_start, walked, walking_on, giving-up, as_lent, walked_all, walked_end}
+use Rattle.target_rows.proofs.WalkLaws.{Walking, rows_in, top_in, month_before, month_inside, walking_start, walked, walking_on, giving_up, as_lent, walked_all, walked_end}
 use Rattle.target_rows.proofs.rows.lower_back.Statement.{statement}
 use Rattle.target_rows.proofs.rows.lower_back.Tie as tie
 
@@ -67,7 +67,7 @@ walk c = c.requires.0
 same_width : (c : tie.After-fill invariant-loop decreases-loop invariant-months decreases-months) → length c.fill.new.0 ≡ length (start (shaped c)).args.row.now
 same_width c = c.fill.auto.0
 
-wide : (c : tie.After-fill invariant-loop decreases-loop invariant-months decreases-months) → let a = (start (shaped c)).args in largest-level a.income a.opening (length a.chances.now) < length c.fill.new.0
+wide : (c : tie.After-fill invariant-loop decreases-loop invariant-months decreases-months) → let a = (start (shaped c)).args in largest_level a.income a.opening (length a.chances.now) < length c.fill.new.0
 wide c = omega (arith, same_width c, (walk (start (shaped c))).inside)
 
 months-holds : tie.Need-months-init invariant-loop decreases-loop invariant-months decreases-months
@@ -87,7 +87,7 @@ some-month c = omega (arith, c.months-test.true)
 record Levels (income top month months width size : ℕ) : Type 0 where
   this : top < width
   some : 0 < income
-  income-below : income ≤ top
+  income_below : income ≤ top
   walked : month ≤ months
   row : size ≡ width
 
@@ -96,15 +96,15 @@ levels :
     let a = (begin c.before).args in
     let loop = c.before.months in
     Levels a.income (a.opening + a.income * loop.month) loop.month (length a.chances.now) (length (filled c.before).fill.last.0) (length loop.row)
-unfolding largest-level
+unfolding largest_level
 levels c =
     let a = (begin c.before).args in
     let loop = c.before.months in
     record {
       this =
-          omega (arith, month-inside a.income a.severity.now a.opening a.chances.now a.target (length (filled c.before).fill.last.0) (wide (filled c.before)) loop.month loop.invariant.inside);
+          omega (arith, month_inside a.income a.severity.now a.opening a.chances.now a.target (length (filled c.before).fill.last.0) (wide (filled c.before)) loop.month loop.invariant.inside);
       some = (walk (begin c.before)).earns;
-      income-below = omega (arith, month-before a.income a.opening loop.month (some-month c));
+      income_below = omega (arith, month_before a.income a.opening loop.month (some-month c));
       walked = loop.invariant.inside;
       row = loop.invariant.size;
     }
@@ -116,7 +116,7 @@ add-top : tie.Need-overflow-add-top invariant-loop decreases-loop invariant-mont
 add-top c = omega (arith, (levels c).this)
 
 sub-last : tie.Need-overflow-sub-last invariant-loop decreases-loop invariant-months decreases-months
-sub-last c = omega (arith, (levels c).income-below)
+sub-last c = omega (arith, (levels c).income_below)
 
 sub-month-back : tie.Need-overflow-sub-month-back invariant-loop decreases-loop invariant-months decreases-months
 sub-month-back c = some-month c.before
@@ -140,11 +140,11 @@ month-back-requires c κs =
     let shape = (shaped (filled month.before)).shape_of.result in (
       rows_in shape width from.args.income loop.row (shape_is month.before) (walk from).earns loop.invariant.size loop.invariant.parts,
       (
-        top_in shape width from.args.income (from.args.opening + from.args.income * loop.month) (shape_is month.before) (omega (arith, (levels month).income-below)) (omega (arith, (levels month).this)),
+        top_in shape width from.args.income (from.args.opening + from.args.income * loop.month) (shape_is month.before) (omega (arith, (levels month).income_below)) (omega (arith, (levels month).this)),
         record {
-          weights-fit = (walk from).terms.weights-fit;
+          weights_fit = (walk from).terms.weights_fit;
           listing = (walk from).listing;
-          chance-fits = (walk from).terms.chances-fit.each (loop.month - 1);
+          chance_fits = (walk from).terms.chances_fit.each (loop.month - 1);
         },
       ),
     )
@@ -155,24 +155,24 @@ taken :
     let a = (begin (at-months c)).args in
     let t = (at-months c).months.month in
     let width = length (filled (at-months c)).fill.last.0 in
-    TakenBack Down a.severity.now (shape_of Survive width a.income) (largest-level a.income a.opening (t - 1)) (drop (t - 1) a.chances.now) (replicate width S) c.month-back.new.0
-unfolding largest-level
+    TakenBack Down a.severity.now (shape_of Survive width a.income) (largest_level a.income a.opening (t - 1)) (drop (t - 1) a.chances.now) (replicate width S) c.month_back.new.0
+unfolding largest_level
 taken c =
     let outer = at-months c in
     let a = (begin outer).args in
     let loop = outer.months in
     walked a.income a.severity.now a.opening a.chances.now a.target (length (filled outer).fill.last.0) (wide (filled outer)) loop.month
-    (some-month (turn c)) loop.row loop.inv c.month-back.new.0 (shaped (filled outer)).shape_of.result (shape_is outer)
-    (a.opening + a.income * loop.month) refl c.month-back.ensures.0 c.month-back.ensures.1.0
+    (some-month (turn c)) loop.row loop.inv c.month_back.new.0 (shaped (filled outer)).shape_of.result (shape_is outer)
+    (a.opening + a.income * loop.month) refl c.month_back.ensures.0 c.month_back.ensures.1.0
 
 loop-holds : tie.Need-loop-init invariant-loop decreases-loop invariant-months decreases-months
 loop-holds c = (omega arith, λ i l. absurd (omega arith))
 
 -- the places of the inner loop lie within the row
-place_inside : (c : tie.At-loop invariant-loop decreases-loop invariant-months decreases-months) → c.loop.place < length (back c).month-back.new.0
+place_inside : (c : tie.At-loop invariant-loop decreases-loop invariant-months decreases-months) → c.loop.place < length (back c).month_back.new.0
 place_inside c =
     let month = turn (back c) in
-    omega (arith, c.loop.invariant.0, (levels month).this, (levels month).row, (levels month).some, (back c).month-back.auto.0)
+    omega (arith, c.loop.invariant.0, (levels month).this, (levels month).row, (levels month).some, (back c).month_back.auto.0)
 
 mul-if1 : tie.Need-overflow-mul-if1 invariant-loop decreases-loop invariant-months decreases-months
 mul-if1 c = omega (arith, place_inside c)
@@ -192,7 +192,7 @@ loop-again : tie.Need-loop-preserved invariant-loop decreases-loop invariant-mon
 loop-again c =
     let inner = c.before.before.before in (
       omega (arith, inner.loop.invariant.0, c.if2.false),
-      below_more (λ i. get_or (back inner).month-back.new.0 i 0 < (begin (at-months (back inner))).args.target) inner.loop.place inner.loop.invariant.1 c.before.if1.true,
+      below_more (λ i. get_or (back inner).month_back.new.0 i 0 < (begin (at-months (back inner))).args.target) inner.loop.place inner.loop.invariant.1 c.before.if1.true,
     )
 
 sub-month : tie.Need-overflow-sub-month invariant-loop decreases-loop invariant-months decreases-months
@@ -202,7 +202,7 @@ months-less : tie.Need-months-smaller invariant-loop decreases-loop invariant-mo
 months-less c = omega (arith, some-month (turn (back c.before.before)))
 
 months-again : tie.Need-months-preserved invariant-loop decreases-loop invariant-months decreases-months
-unfolding largest-level
+unfolding largest_level
 months-again c =
     let inner = c.before.before in
     let month = back inner in
@@ -210,8 +210,8 @@ months-again c =
     let a = (begin outer).args in
     let loop = outer.months in
     walking_on a.income a.severity.now a.opening a.chances.now a.target (length (filled outer).fill.last.0) (wide (filled outer)) loop.month
-    (some-month (turn month)) loop.row loop.inv month.month-back.last.0 (taken month) month.month-back.kept.0 month.month-back.ensures.1.1
-    inner.loop.place (omega (arith, inner.loop.invariant.0, month-before a.income a.opening loop.month (some-month (turn month)))) c.if1.false
+    (some-month (turn month)) loop.row loop.inv month.month_back.last.0 (taken month) month.month_back.kept.0 month.month_back.ensures.1.1
+    inner.loop.place (omega (arith, inner.loop.invariant.0, month_before a.income a.opening loop.month (some-month (turn month)))) c.if1.false
 
 same_length : tie.Need-same-length invariant-loop decreases-loop invariant-months decreases-months
 same_length c = search rules
@@ -232,7 +232,7 @@ same-length-2 : tie.Need-same-length-2 invariant-loop decreases-loop invariant-m
 same-length-2 c = search rules
 
 returns-2 : tie.Need-returns-2 invariant-loop decreases-loop invariant-months decreases-months
-unfolding largest-level
+unfolding largest_level
 returns-2 c =
     let inner = c.before.before.before in
     let month = back inner in
@@ -240,10 +240,10 @@ returns-2 c =
     let a = (begin outer).args in
     let loop = outer.months in
     let width = length (filled outer).fill.last.0 in (
-      giving-up a.income a.severity.now a.opening a.chances.now a.target width (wide (filled outer)) loop.month
-          (some-month (turn month)) loop.row loop.inv month.month-back.last.0 (taken month)
-          (λ i l. below_more (λ i. get_or month.month-back.last.0 i 0 < a.target) inner.loop.place inner.loop.invariant.1 c.before.if1.true i (omega (arith, c.if2.true, month-before a.income a.opening loop.month (some-month (turn month))))),
-      as_lent a.income a.severity.now a.opening a.chances.now (loop.month - 1) width (length a.row.now) month.month-back.last.0 (same_width (filled outer)) (taken month),
+      giving_up a.income a.severity.now a.opening a.chances.now a.target width (wide (filled outer)) loop.month
+          (some-month (turn month)) loop.row loop.inv month.month_back.last.0 (taken month)
+          (λ i l. below_more (λ i. get_or month.month_back.last.0 i 0 < a.target) inner.loop.place inner.loop.invariant.1 c.before.if1.true i (omega (arith, c.if2.true, month_before a.income a.opening loop.month (some-month (turn month))))),
+      as_lent a.income a.severity.now a.opening a.chances.now (loop.month - 1) width (length a.row.now) month.month_back.last.0 (same_width (filled outer)) (taken month),
     )
 
 pub lower-back-spec : {M : Type 1} → statement M

@@ -7,10 +7,10 @@ use lib.ListN.{length, replicate}
 use Rattle.model.specs.declared.Rounding.TheVariants.{Up}
 use Rattle.model.specs.Scale.{S}
 use Rattle.model.specs.Refusal.{outside}
-use Rattle.model.proofs.LevelLaws.{level-from}
-use Rattle.month_rule.proofs.HalfLaws.{parts-replicate}
+use Rattle.model.proofs.LevelLaws.{level_from}
+use Rattle.month_rule.proofs.HalfLaws.{parts_replicate}
 use Rattle.target_rows.specs.Rows.{Walk}
-use Rattle.target_rows.proofs.WalkLaws.{back-of, rows_in, width_of}
+use Rattle.target_rows.proofs.WalkLaws.{back_of, rows_in, width_of}
 use Rattle.target_rows.proofs.rows.upper_at.Statement.{statement}
 use Rattle.target_rows.proofs.rows.upper_at.Tie as tie
 
@@ -47,7 +47,7 @@ all-months-back-requires c κs =
     let from = start (shaped at_fill_lem) in
     let shape = (shaped at_fill_lem).shape_of in
     let width = length from.args.row.now in (
-      rows_in shape.result width from.args.income at_fill_lem.fill.new.0 shape.ensures (walk from).earns at_fill_lem.fill.auto.0 (rw (last_row at_fill_lem) (parts-replicate width S (le_refl S))),
+      rows_in shape.result width from.args.income at_fill_lem.fill.new.0 shape.ensures (walk from).earns at_fill_lem.fill.auto.0 (rw (last_row at_fill_lem) (parts_replicate width S (le_refl S))),
       (width_of shape.result width from.args.income from.args.opening _ shape.ensures (walk from).inside, ((walk from).terms, (walk from).listing)),
     )
 
@@ -56,7 +56,7 @@ value-at-requires c κs =
     let months = c.before.before.before in
     let from = start (shaped (filled months)) in
     let a = from.args in
-    (le_refl a.opening, omega (arith, (walk from).inside, level-from a.income a.opening a.opening (length a.chances.now) (le_refl a.opening), months.all-months-back.auto.0, (filled months).fill.auto.0))
+    (le_refl a.opening, omega (arith, (walk from).inside, level_from a.income a.opening a.opening (length a.chances.now) (le_refl a.opening), months.all-months-back.auto.0, (filled months).fill.auto.0))
 
 fill-requires-2 : tie.Need-fill-requires-2
 fill-requires-2 c κs = search rules
@@ -74,7 +74,7 @@ returns c =
     let a = from.args in
     let width = length a.row.now in (
       read.value-at.ensures
-          ∙ back-of Up a.income a.severity.now a.chances.now width a.opening (shaped at_fill_lem).shape_of.result at_fill_lem.fill.last.0 months.all-months-back.last.0
+          ∙ back_of Up a.income a.severity.now a.chances.now width a.opening (shaped at_fill_lem).shape_of.result at_fill_lem.fill.last.0 months.all-months-back.last.0
           (shaped at_fill_lem).shape_of.ensures (last_row at_fill_lem) (walk from).inside months.all-months-back.ensures.0 a.opening (le_refl a.opening),
       cleared.fill2.ensures ∙ ap (λ n. replicate n 0) (months.all-months-back.kept.0 ∙ at_fill_lem.fill.kept.0),
     )

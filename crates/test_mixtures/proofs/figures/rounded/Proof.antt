@@ -2,7 +2,7 @@
 use mathlib.Core.Path.{refl}
 use borrow.Author.Rules.{rules}
 use Rattle.model.specs.Scale.{S}
-use Rattle.test_mixtures.specs.Rounded.{ten-millionths}
+use Rattle.test_mixtures.specs.Rounded.{ten_millionths}
 use Rattle.test_mixtures.proofs.figures.rounded.Statement.{statement}
 use Rattle.test_mixtures.proofs.figures.rounded.Tie as tie
 
@@ -13,7 +13,7 @@ add-result : tie.Need-overflow-add-result
 add-result c = search rules
 
 returns : tie.Need-returns
-unfolding ten-millionths S
+unfolding ten_millionths S
 returns c = refl
 
 pub rounded-spec : {M : Type 1} → statement M

@@ -1,7 +1,7 @@
 -- `record::decode` meets its contract: a word for each field, and the heads and weights of all plans.
 use mathlib.Core.Path.{ap₂, ◌∙◌}
 use borrow.Author.Rules.{rules}
-use Rattle.test_mixtures.specs.Records.{question-of, record_of}
+use Rattle.test_mixtures.specs.Records.{question_of, record_of}
 use Rattle.test_mixtures.proofs.record.decode.Statement.{statement}
 use Rattle.test_mixtures.proofs.record.decode.Tie as tie
 
@@ -62,7 +62,7 @@ returns c =
     let at-question = room at_room in
     let at-weights = weights (question at-question) in
     let at_count = at-weights.before.before in
-    let asked = at-question.question.ensures ∙ ap₂ question-of (question at-question).word3.ensures at-question.before.word4.ensures in
+    let asked = at-question.question.ensures ∙ ap₂ question_of (question at-question).word3.ensures at-question.before.word4.ensures in
     λ i. record {
       kind = (kind at_count).word.ensures i;
       mixture =

@@ -2,23 +2,23 @@
 use Prim.Native.Nat.{◌-◌}
 use mathlib.Core.Path.{refl}
 use borrow.Author.Rules.{rules}
-use Rattle.model.specs.Limits.{max-plans}
+use Rattle.model.specs.Limits.{max_plans}
 use Rattle.test_mixtures.specs.Records.{head_at}
-use Rattle.test_mixtures.proofs.StoreLaws.{Storing, storing-none, storing-more, storing-done}
+use Rattle.test_mixtures.proofs.StoreLaws.{Storing, storing_none, storing_more, storing_done}
 use Rattle.test_mixtures.proofs.record.heads.Statement.{statement}
 use Rattle.test_mixtures.proofs.record.heads.Tie as tie
 
 abbrev invariant-loop : tie.invariant-loop
-invariant-loop words heads₀ i₀ heads i = Storing (head_at words) max-plans heads i
+invariant-loop words heads₀ i₀ heads i = Storing (head_at words) max_plans heads i
 
 abbrev decreases-loop : tie.decreases-loop
-decreases-loop words heads₀ i₀ heads i = max-plans - i
+decreases-loop words heads₀ i₀ heads i = max_plans - i
 
 head-requires : tie.Need-head-requires invariant-loop decreases-loop
 head-requires c κs = search rules
 
 loop-holds : tie.Need-loop-init invariant-loop decreases-loop
-loop-holds c = storing-none _ _ _ refl
+loop-holds c = storing_none _ _ _ refl
 
 head-requires-2 : tie.Need-head-requires-2 invariant-loop decreases-loop
 head-requires-2 c κs = search rules
@@ -36,10 +36,10 @@ loop-less : tie.Need-loop-smaller invariant-loop decreases-loop
 loop-less c = search rules
 
 loop-again : tie.Need-loop-preserved invariant-loop decreases-loop
-loop-again c = storing-more _ _ _ _ c.before.before.loop.invariant _ c.before.loop-test.true c.head2.ensures
+loop-again c = storing_more _ _ _ _ c.before.before.loop.invariant _ c.before.loop-test.true c.head2.ensures
 
 returns : tie.Need-returns invariant-loop decreases-loop
-returns c = storing-done _ _ _ _ c.before.loop.invariant c.loop-test.false
+returns c = storing_done _ _ _ _ c.before.loop.invariant c.loop-test.false
 
 pub heads-spec : {M : Type 1} → statement M
 heads-spec =

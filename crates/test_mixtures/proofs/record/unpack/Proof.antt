@@ -5,7 +5,7 @@ use native.Mathlib.Omega.{arith}
 use borrow.Author.Rules.{rules}
 use lib.ListN.{length, length-set}
 use Rattle.test_mixtures.specs.Records.{number_at}
-use Rattle.test_mixtures.proofs.StoreLaws.{Storing, storing-none, storing-more, storing-done}
+use Rattle.test_mixtures.proofs.StoreLaws.{Storing, storing_none, storing_more, storing_done}
 use Rattle.test_mixtures.proofs.record.unpack.Statement.{statement}
 use Rattle.test_mixtures.proofs.record.unpack.Tie as tie
 
@@ -16,7 +16,7 @@ abbrev decreases-loop : tie.decreases-loop
 decreases-loop bytes row₀ i₀ row i = length row - i
 
 loop-holds : tie.Need-loop-init invariant-loop decreases-loop
-loop-holds c = storing-none _ _ _ refl
+loop-holds c = storing_none _ _ _ refl
 
 number-requires : tie.Need-number-requires invariant-loop decreases-loop
 number-requires c κs = search rules
@@ -36,7 +36,7 @@ loop-less c = simp length-set (omega arith)
 loop-again : tie.Need-loop-preserved invariant-loop decreases-loop
 loop-again c =
     let before = c.before.before.loop.invariant in
-    storing-more _ _ _ _ before _ (omega (arith, before.long, c.before.loop-test.true)) c.number.ensures
+    storing_more _ _ _ _ before _ (omega (arith, before.long, c.before.loop-test.true)) c.number.ensures
 
 same_length : tie.Need-same-length invariant-loop decreases-loop
 same_length c = c.before.loop.invariant.long
@@ -44,7 +44,7 @@ same_length c = c.before.loop.invariant.long
 returns : tie.Need-returns invariant-loop decreases-loop
 returns c =
     let end = c.before.loop.invariant in
-    storing-done _ _ _ _ end (omega (arith, end.long, c.loop-test.false))
+    storing_done _ _ _ _ end (omega (arith, end.long, c.loop-test.false))
 
 pub unpack-spec : {M : Type 1} → statement M
 unpack-spec =

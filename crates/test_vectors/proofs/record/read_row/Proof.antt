@@ -5,7 +5,7 @@ use lib.Seq.{length-take-le}
 use lib.ListN.{length-take}
 use borrow.Author.Rules.{rules}
 use borrow.Author.Tests.{lt-ltb, le-ltb}
-use Rattle.test_vectors.specs.Rooms.{row-used}
+use Rattle.test_vectors.specs.Rooms.{row_used}
 use Rattle.test_vectors.proofs.record.read_row.Statement.{statement}
 use Rattle.test_vectors.proofs.record.read_row.Tie as tie
 
@@ -20,11 +20,11 @@ abbrev stored : tie.After-slice-known2 → tie.After-read-numbers
 stored c = c.before.before.before
 
 returns : tie.Need-returns
-unfolding row-used
+unfolding row_used
 returns c = (rw (lt-ltb _ _ c.if1.true), search rules)
 
 returns-2 : tie.Need-returns-2
-unfolding row-used
+unfolding row_used
 returns-2 c = (rw (le-ltb _ _ c.before.if1.false, lt-ltb _ _ c.if2.true), search rules)
 
 bytes-requires : tie.Need-bytes-requires
@@ -52,7 +52,7 @@ same_length : tie.Need-same-length
 same_length c = search rules
 
 returns-3 : tie.Need-returns-3
-unfolding row-used
+unfolding row_used
 returns-3 c =
     let fits = tested (made (stored c)) in
     (rw (le-ltb _ _ fits.before.if1.left, le-ltb _ _ fits.if2.left), omega arith)

@@ -3,7 +3,7 @@ use Prim.Native.Nat.{◌*◌, ◌-◌}
 use native.Mathlib.Omega.{arith}
 use borrow.Author.Rules.{rules}
 use lib.ListN.{length, length-set}
-use Rattle.model.proofs.Filling.{Filling, filling-none, filling-more, filling-done}
+use Rattle.model.proofs.Filling.{Filling, filling_none, filling_more, filling_done}
 use Rattle.test_vectors.specs.Records.{number_at, row_in}
 use Rattle.test_vectors.proofs.record.unpack.Statement.{statement}
 use Rattle.test_vectors.proofs.record.unpack.Tie as tie
@@ -15,7 +15,7 @@ abbrev decreases-loop : tie.decreases-loop
 decreases-loop bytes row₀ i₀ row i = length row - i
 
 loop-holds : tie.Need-loop-init invariant-loop decreases-loop
-loop-holds c = filling-none _ _
+loop-holds c = filling_none _ _
 
 mul-number : tie.Need-overflow-mul-number invariant-loop decreases-loop
 mul-number c = search rules
@@ -36,14 +36,14 @@ loop-less : tie.Need-loop-smaller invariant-loop decreases-loop
 loop-less c = simp length-set (omega arith)
 
 loop-again : tie.Need-loop-preserved invariant-loop decreases-loop
-loop-again c = filling-more _ _ _ _ c.before.before.loop.invariant _ c.before.loop-test.true c.number.ensures
+loop-again c = filling_more _ _ _ _ c.before.before.loop.invariant _ c.before.loop-test.true c.number.ensures
 
 same_length : tie.Need-same-length invariant-loop decreases-loop
 same_length c = c.before.loop.invariant.same
 
 returns : tie.Need-returns invariant-loop decreases-loop
 unfolding row_in
-returns c = filling-done _ _ _ _ c.before.loop.invariant c.loop-test.false
+returns c = filling_done _ _ _ _ c.before.loop.invariant c.loop-test.false
 
 pub unpack-spec : {M : Type 1} → statement M
 unpack-spec =

@@ -3,7 +3,7 @@ use mathlib.Core.Path.{sym}
 use native.Mathlib.Omega.{arith}
 use lib.Seq.{length-take-le}
 use Rattle.model.proofs.Facts.{Facts, facts}
-use Rattle.engine.proofs.AnswerLaws.{terms-lent}
+use Rattle.engine.proofs.AnswerLaws.{terms_lent}
 use Rattle.test_vectors.proofs.sums.add.Statement.{statement}
 use Rattle.test_vectors.proofs.sums.add.Tie as tie
 
@@ -41,7 +41,7 @@ list-requires : tie.Need-list-requires
 list-requires c κs =
     let at-range = c.before.before in
     let from = start at-range in
-    terms-lent from.args.head from.args.row.now (known from) at-range.lesser.result
+    terms_lent from.args.head from.args.row.now (known from) at-range.lesser.result
 
 returns : tie.Need-returns
 returns c = tt

@@ -7,7 +7,7 @@ abbrev start : tie.After-list-sizes → tie.Start
 start c = c.before.before.before
 
 list-sizes-requires : tie.Need-list-sizes-requires
-list-sizes-requires c κs = c.before.before.requires.sizes-fit
+list-sizes-requires c κs = c.before.before.requires.sizes_fit
 
 array-share-prefix-sizes : tie.Need-array-share-prefix-sizes
 array-share-prefix-sizes c = c.before.list-sizes.ensures.1.0

@@ -1,7 +1,7 @@
 -- `sum` meets its contract: of the list it hands on what lies in range.
 use native.Mathlib.Nat.{le_refl}
 use native.Mathlib.Omega.{arith}
-use Rattle.claims.proofs.ListingLaws.{listed-from-start, listed-from-turn, listed-part}
+use Rattle.claims.proofs.ListingLaws.{listed_from_start, listed_from_turn, listed_part}
 use Rattle.test_vectors.proofs.sums.sum.Statement.{statement}
 use Rattle.test_vectors.proofs.sums.sum.Tie as tie
 
@@ -34,12 +34,12 @@ claim-sum-requires c κs =
     let a = from.args in
     let listing = from.pre.1 in
     let range =
-    listed-part a.severity.now a.sizes.now a.dense at-range.first-within.result most.result _
-    (listed-from-turn a.severity.now a.sizes.now a.dense most.result 0 most.result at-range.first-within.result most.result (le_refl _) (le_refl _)
+    listed_part a.severity.now a.sizes.now a.dense at-range.first-within.result most.result _
+    (listed_from_turn a.severity.now a.sizes.now a.dense most.result 0 most.result at-range.first-within.result most.result (le_refl _) (le_refl _)
     at-range.first-within.ensures.0 at-range.first-within.ensures.1
-    (listed-from-start a.severity.now a.sizes.now a.dense most.result (omega (arith, most.ensures)) listing)).0
+    (listed_from_start a.severity.now a.sizes.now a.dense most.result (omega (arith, most.ensures)) listing)).0
     most.ensures in
-    (from.pre.0.chances-fit, (from.pre.0.weights-fit, (range, listing.no_gap)))
+    (from.pre.0.chances_fit, (from.pre.0.weights_fit, (range, listing.no_gap)))
 
 line-requires : tie.Need-line-requires
 line-requires c κs = tt
