@@ -21,7 +21,6 @@ pub mod FirstClaimLaw
 pub mod Tail
 pub mod Opening
 pub mod Theorems
-pub mod Deficits
 pub mod PlansNear
 pub mod TwoPlans
 pub mod Worked

@@ -14,7 +14,7 @@ use Rattle.model.specs.Scale.{S}
 use Rattle.model.specs.Sums.{total}
 use Rattle.model.specs.Plan.{Plan, plan_of, horizon, nth}
 use Rattle.model.specs.Exact.{exact, exact_ruin, exact_count}
-use Rattle.model.specs.MonthRule.{Row, Month, month, exact_month, value, rule_of, last_of, claims_of, opening_allowed, ruin_weight, weighed_row, ruin_row, carried_back}
+use Rattle.model.specs.MonthRule.{Row, Month, month, exact_month, value, rule_of, last_of, claims_of, opening_allowed, ruin_weight, ruin_row, carried_back}
 use Rattle.model.specs.CountRow.{count_row, count_month, exact_count_month, after_months, no_months}
 use Rattle.model.specs.Bounds.{bound, ruin_bound, months_to}
 use Rattle.model.specs.Sensitivity.{OnlyChancesDiffer, distance, chances_apart}
@@ -141,7 +141,7 @@ module _ {h h' : Head} {row row' : List ℕ} (pair : Pair h row h' row') where
       (chance_fits h row pair.accepted t) (chance_fits h' row' pair.accepted' t) (ruin_weight_fits old.severity old.tail (weights_fit h row pair.accepted) (s + old.income)))
 
   pub ruin_bound_near : (round : Rounding) (t : ℕ) → 0 < t → t ≤ horizon old → Near (chances_apart (months_to old t) (months_to new t)) 1 (ruin_bound round old t) (ruin_bound round new t)
-  unfolding ruin_bound ruin_row weighed_row
+  unfolding ruin_bound ruin_row
   ruin_bound_near round t some l =
       carried_near (month round) (λ n. 1) (λ n. rounded_moving old.income old.severity weights_most round) t some l _ _
       (λ s. near_quotient round S scale_positive (before_near t s))

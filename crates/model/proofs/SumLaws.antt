@@ -6,25 +6,11 @@ use Prim.Native.Nat.{ℕ, zero, suc, ◌+◌, ◌*◌, ◌^◌, ◌≤◌, zero-
 use native.Mathlib.Nat.{mul-add, add-mul, mul-zero, zero-mul, suc-mul, pow-succ', zero-add, min-zero, zero-min, suc-min-suc}
 use native.Mathlib.Omega.{arith}
 use lib.ListN.{length, drop}
-use lib.Dec.{ltb, eqb}
-use borrow.Author.Tests.{lt-ltb, eq-eqb, ne_eqb, eqb-true, eqb-false}
-use mathlib.Core.Bool.{Bool, true, false, ◌||◌, cond}
+use lib.Dec.{ltb}
+use borrow.Author.Tests.{lt-ltb}
+use mathlib.Core.Bool.{Bool, true, false, ◌||◌}
 use Rattle.model.specs.Sums.{sum, product, one_to, total, count, any}
 use Rattle.model.specs.Plan.{nth}
-
--- a number is below another or not
-pub below_or_not : (s n : ℕ) → (s < n) ⊎ (n ≤ s)
-below_or_not s zero = inr zero-le
-below_or_not zero (suc n) = inl (omega arith)
-below_or_not (suc s) (suc n) = ⊎_elim (λ l. inl (suc-le-suc l)) (λ l. inr (suc-le-suc l)) (below_or_not s n)
-
--- two tests of equal numbers that hold of the same
-pub eqb_same : (a b c d : ℕ) → (a ≡ b → c ≡ d) → (c ≡ d → a ≡ b) → eqb a b ≡ eqb c d
-eqb_same a b c d to from = go (eqb a b) refl
-  where
-    go : (t : Bool) → eqb a b ≡ t → t ≡ eqb c d
-    go true e = sym (eq-eqb c d (to (eqb-true a b e)))
-    go false e = sym (ne_eqb c d (λ s. eqb-false a b e (from s)))
 
 -- terms that agree have equal sums
 pub sum_ext : (n : ℕ) (f g : ℕ → ℕ) → ((i : ℕ) → i < n → f (suc i) ≡ g (suc i)) → sum n f ≡ sum n g
@@ -41,12 +27,6 @@ unfolding sum
 sum_last zero f = omega arith
 sum_last (suc n) f = omega (arith, sum_last n (λ x. f (suc x)))
 
--- terms that are all 0
-pub sum_none : (n : ℕ) → sum n (λ x. 0) ≡ 0
-unfolding sum
-sum_none zero = refl
-sum_none (suc n) = zero-add (sum n (λ x. 0)) ∙ sum_none n
-
 -- terms of at most k
 pub sum_at_most : (n k : ℕ) (f : ℕ → ℕ) → ((i : ℕ) → f (suc i) ≤ k) → sum n f ≤ n * k
 unfolding sum
@@ -62,12 +42,6 @@ pub sum_times : (n k : ℕ) (f : ℕ → ℕ) → sum n (λ x. k * f x) ≡ k * 
 unfolding sum
 sum_times zero k f = sym (mul-zero k)
 sum_times (suc n) k f = ap (λ (y : ℕ). k * f 1 + y) (sum_times n k (λ x. f (suc x))) ∙ sym (mul-add k (f 1) (sum n (λ x. f (suc x))))
-
--- sums of two terms each
-pub sum_plus : (n : ℕ) (f g : ℕ → ℕ) → sum n (λ x. f x + g x) ≡ sum n f + sum n g
-unfolding sum
-sum_plus zero f g = refl
-sum_plus (suc n) f g = omega (arith, sum_plus n (λ x. f (suc x)) (λ x. g (suc x)))
 
 pub total_append : (xs ys : List ℕ) → total (xs ++ ys) ≡ total xs + total ys
 unfolding total
@@ -132,47 +106,6 @@ sum_nth_from (x ∷ xs) (suc j) k f first rest =
     let later = sum_nth_from xs j k (λ i. f (suc i)) (λ i l. first (suc i) (omega arith)) (λ i l. rest (suc i) (omega arith)) in
     omega (arith, first 0 (omega arith))
 
--- all weights of a list
-pub sum_nth : (xs : List ℕ) (n : ℕ) → length xs ≤ n → sum n (λ x. nth xs x) ≡ total xs
-unfolding sum total nth
-sum_nth [] n l = sum_ext n (λ x. nth [] x) (λ x. 0) (λ i b. refl) ∙ sum_none n
-sum_nth (x ∷ xs) zero l = absurd (omega arith)
-sum_nth (x ∷ xs) (suc n) l =
-    ap (λ (y : ℕ). x + y) (sum_ext n (λ i. nth (x ∷ xs) (suc i)) (λ i. nth xs i) (λ i b. refl) ∙ sum_nth xs n (omega arith))
-
--- one term alone
-pub sum_at : (n y : ℕ) (f : ℕ → ℕ) → 0 < y → y ≤ n → sum n (λ x. cond (eqb y x) (f x) 0) ≡ f y
-unfolding sum
-sum_at n zero f some l = absurd (omega arith)
-sum_at zero (suc y) f some l = absurd (omega arith)
-sum_at (suc n) (suc zero) f some l =
-    omega (arith, sum_ext n (λ x. cond (eqb 1 (suc x)) (f (suc x)) 0) (λ x. 0) (λ i b. rw (ne_eqb 1 (suc (suc i)) (λ e. omega arith))), sum_none n)
-sum_at (suc n) (suc (suc y)) f some l =
-    rw (ne_eqb (suc (suc y)) 1 (λ e. omega arith))
-    (zero-add _
-    ∙ sum_ext n (λ x. cond (eqb (suc (suc y)) (suc x)) (f (suc x)) 0) (λ x. cond (eqb (suc y) x) (f (suc x)) 0)
-    (λ i b. ap (λ (t : Bool). cond t (f (suc (suc i))) 0) (eqb_same (suc (suc y)) (suc (suc i)) (suc y) (suc i) (λ e. omega arith) (λ e. omega arith)))
-    ∙ sum_at n (suc y) (λ x. f (suc x)) (omega arith) (omega arith))
-
--- past the end of a list there is nothing
-nth_past : (xs : List ℕ) (i : ℕ) → length xs ≤ i → nth xs (suc i) ≡ 0
-unfolding nth
-nth_past [] i l = refl
-nth_past (x ∷ xs) zero l = absurd (omega arith)
-nth_past (x ∷ xs) (suc i) l = nth_past xs i (omega arith)
-
--- one weight of a list alone
-pub sum_nth_at : (xs : List ℕ) (y : ℕ) → 0 < y → sum (length xs) (λ x. cond (eqb y x) (nth xs x) 0) ≡ nth xs y
-sum_nth_at xs zero some = absurd (omega arith)
-sum_nth_at xs (suc y) some = ⊎_elim inside past (below_or_not y (length xs))
-  where
-    inside : y < length xs → sum (length xs) (λ x. cond (eqb (suc y) x) (nth xs x) 0) ≡ nth xs (suc y)
-    inside l = sum_at (length xs) (suc y) (nth xs) some l
-
-    past : length xs ≤ y → sum (length xs) (λ x. cond (eqb (suc y) x) (nth xs x) 0) ≡ nth xs (suc y)
-    past l =
-        sum_ext (length xs) _ (λ x. 0) (λ i b. rw (ne_eqb (suc y) (suc i) (λ e. omega arith))) ∙ sum_none (length xs) ∙ sym (nth_past xs y l)
-
 -- terms that each lead from one number of a row to the one before it lead from the last to the first
 pub sum_telescope : (n : ℕ) (a f : ℕ → ℕ) → ((i : ℕ) → i < n → f (suc i) + a (suc i) ≡ a i) → sum n f + a n ≡ a 0
 unfolding sum
@@ -197,6 +130,12 @@ positive_none xs = zero-add _
 pub positive_more : (x : ℕ) (xs : List ℕ) → 0 < x → count (λ x. ltb 0 x) (x ∷ xs) ≡ 1 + count (λ x. ltb 0 x) xs
 unfolding count
 positive_more x xs l = rw (lt-ltb 0 x l)
+
+-- a number is below another or not
+pub below_or_not : (s n : ℕ) → (s < n) ⊎ (n ≤ s)
+below_or_not s zero = inr zero-le
+below_or_not zero (suc n) = inl (omega arith)
+below_or_not (suc s) (suc n) = ⊎_elim (λ l. inl (suc-le-suc l)) (λ l. inr (suc-le-suc l)) (below_or_not s n)
 
 -- a test of some element, of what a function makes of a list and of two lists
 pub any_map : (test : ℕ → Bool) (f : ℕ → ℕ) (xs : List ℕ) → any test (map f xs) ≡ any (λ x. test (f x)) xs

@@ -36,7 +36,7 @@ minus_at_most B zero (negsuc z) h = sub_at_most B 0 (suc z) (omega arith)
 minus_at_most B (suc i) (negsuc z) h = refl
 
 -- the surplus grows by at most the income a month
-pub grows : (income B : ℕ) (u : Surplus) (e : Event) → at_most B u ≡ true → at_most (B + income) (next_surplus income u e) ≡ true
+grows : (income B : ℕ) (u : Surplus) (e : Event) → at_most B u ≡ true → at_most (B + income) (next_surplus income u e) ≡ true
 unfolding next_surplus at_most
 grows income B (known z) no_claim h = plus_at_most B income z h
 grows income B (known z) (claim x) h = minus_at_most (B + income) x (z +ℤ pos income) (plus_at_most B income z h)

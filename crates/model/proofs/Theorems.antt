@@ -1,6 +1,6 @@
 -- The laws of demands 2 and 3, of every accepted plan: what the other crates cite, and what docs/CLAIMS.md names.
 use mathlib.Core.Path.{◌≡◌, refl, sym, ◌∙◌, ap, ap₂, fun_ext}
-use mathlib.Core.Bool.{Bool, true, false}
+use mathlib.Core.Bool.{true, false}
 use mathlib.Core.List.{List, [], ◌∷◌, ◌++◌}
 use Prim.Native.Nat.{ℕ, zero, suc, ◌+◌, ◌*◌, ◌-◌, ◌^◌, ◌≤◌, ◌<◌}
 use native.Mathlib.Nat.{le_trans, le_of_mul-le-mul_right, le_refl, eq_of_mul-eq-mul_right, one-le-pow, add-mul, mul_assoc, mul_comm, mul-one, zero-add, zero-mul}
@@ -19,12 +19,12 @@ use Rattle.model.specs.Scale.{S}
 use Rattle.model.specs.Sums.{sum, product, total}
 use Rattle.model.specs.Plan.{Plan, plan_of, horizon, sizes, nth}
 use Rattle.model.specs.Levels.{largest_level}
-use Rattle.model.specs.History.{History, Surplus, claim, known, at_least, at_most}
-use Rattle.model.specs.Exact.{path_from, survives, keeps, lasts_then, ruins, first_ruin, leaves_deficit, first_deficit, weight_of, exact, exact_ruin, exact_deficit, exact_count}
-use Rattle.model.specs.MonthRule.{Row, Month, month, exact_month, kept, claimed_row, values, value, rule_of, last_of, claims_of, opening_allowed, ruin_weight, weighed_row, ruin_row, deficit_weight, deficit_row, carried_back}
+use Rattle.model.specs.History.{History, claim, known, at_least, at_most}
+use Rattle.model.specs.Exact.{path_from, survives, keeps, first_ruin, weight_of, exact, exact_ruin, exact_count}
+use Rattle.model.specs.MonthRule.{Row, Month, month, exact_month, kept, claimed_row, values, value, rule_of, last_of, claims_of, opening_allowed, ruin_weight, ruin_row, carried_back}
 use Rattle.model.specs.CountRow.{count_row, exact_count_month, after_months, no_months}
 use Rattle.model.specs.FirstClaim.{some_claim, first_claim_survival}
-use Rattle.model.specs.Bounds.{bound, lower, upper, ruin_bound, ruin_lower, ruin_upper, deficit_bound, deficit_lower, deficit_upper, ruin_lowers, ruin_uppers, count_lower, count_upper, live_months, months_to, month_gap, Encloses, EnclosesQuestion, EnclosesDeficit, EnclosesCount, MonthLimits, WeighedLimits, CountLimits}
+use Rattle.model.specs.Bounds.{bound, lower, upper, ruin_bound, ruin_lower, ruin_upper, ruin_lowers, ruin_uppers, count_lower, count_upper, live_months, months_to, month_gap, Encloses, EnclosesQuestion, EnclosesCount, MonthLimits, RuinLimits, CountLimits}
 use Rattle.model.specs.Refusal.{Accepted}
 use Rattle.model.proofs.Facts.{facts}
 use Rattle.model.proofs.SumLaws.{pow_two_more}
@@ -34,7 +34,7 @@ use Rattle.model.proofs.Month.{scale_positive, limit, month_limited}
 use Rattle.model.proofs.Values.{kept_rel, take_fits, values_enclose, values_fit, values_never_above, values_gap, live_months_append, last_fits, kept_fits, months_fit}
 use Rattle.model.proofs.Histories.{weight_is, weigh_all}
 use Rattle.model.proofs.Questions.{unrounded_is_exact}
-use Rattle.model.proofs.FirstRuin.{Counts, unrounded_is_tested, ruin_counts, deficit_counts, ruins_make_up, weighed_row_encloses, weighed_row_gap, weighed_row_fits, weighed_limited, ruin_weight_fits, ruin_row_fits, deficit_weight_fits}
+use Rattle.model.proofs.FirstRuin.{unrounded_ruin_is_exact, ruins_make_up, ruin_row_encloses, ruin_row_gap, ruin_row_fits, ruin_limited}
 use Rattle.model.proofs.Counts.{unrounded_count_is_exact, count_month_fits, count_row_encloses, count_row_fits, count_row_gap, count_row_above}
 use Rattle.model.proofs.FirstClaimLaw.{some_claim_fits, no_claim_is, survive_is_first_claim}
 use Rattle.model.proofs.Tail.{ruins_then, all_fails}
@@ -47,7 +47,7 @@ pub positive : (n : ℕ) → 0 < S ^ n
 positive n = one-le-pow n S scale_positive
 
 -- the lower bound is at most the upper one
-pub ordered : {p : Plan} {gap_months : List ℕ} {W low high : ℕ} → Encloses p gap_months W low high → low ≤ high
+ordered : {p : Plan} {gap_months : List ℕ} {W low high : ℕ} → Encloses p gap_months W low high → low ≤ high
 ordered {p} {gap_months} {W} {low} {high} e = le_of_mul-le-mul_right (le_trans e.below e.above) (positive (2 * horizon p))
 
 -- a row before month i + 1 goes back through the first i months
@@ -77,7 +77,7 @@ month_scaled d i n v e l r =
     (times_right d (S ^ (2 * (n - suc i)) * S) r)
 
 -- sums of numbers that are each related at the same two scales
-pub sum_related :
+sum_related :
     {rel : ℕ → ℕ → Type 0} {round : Rounding} (d : Direction rel round) (n : ℕ) (f g : ℕ → ℕ) (a b : ℕ) →
     ((i : ℕ) → i < n → rel (f (suc i) * a) (g (suc i) * b)) → rel (sum n f * a) (sum n g * b)
 unfolding sum
@@ -188,36 +188,35 @@ module _ (h : Head) (row : List ℕ) (accepted : Accepted h row) where
   one_month_more zero some l = absurd (omega arith)
   one_month_more (suc i) some l = let index : suc i - 1 ≡ i = omega arith in rw index (take-suc p.chances i 0 l)
 
-  -- A test of the surpluses before and after month t, with the weights of the claims that pass it, by the level before the month. With rounding left out the rule
-  -- is the weight of the histories that last to month t and pass the test in it, where each month after t multiplies the weight by S × S …
-  pub unrounded_tested :
-      (test : Surplus → Surplus → Bool) (weight : Row) → Counts p.income p.severity p.tail test weight → (t : ℕ) → 0 < t → t ≤ horizon p →
-      carried_back (exact_month p.income p.severity) p t (λ s. nth p.chances t * weight s) * S ^ (2 * (horizon p - t))
-      ≡ weight_of p (lasts_then test p.income t p.opening)
-  unfolding nth
-  unrounded_tested test weight counts zero some l = absurd (omega arith)
-  unrounded_tested test weight counts (suc i) some l =
-      ap (λ (v : ℕ). v * S ^ (2 * (horizon p - suc i))) (carried_is (exact_month p.income p.severity) p i (λ s. nth p.chances (suc i) * weight s))
-      ∙ sym (unrounded_is_tested p.income p.severity p.tail test weight counts income_some weights_add p.chances chances_fit i l p.opening)
-      ∙ sym (weight_is p (lasts_then test p.income (suc i) p.opening))
+  -- the row before month t, where it ruins: rounded, and exact in parts of S × S
+  abbrev pub before : Rounding → ℕ → Row
+  before round t = ruin_row round p.income p.severity p.tail (nth p.chances t)
 
-  -- … and enclosure and gap hold of the row before the month carried back, "the gap rule counting months 1 to t".
-  pub tested_enclosure :
-      (test : Surplus → Surplus → Bool) (weight : Row) → Counts p.income p.severity p.tail test weight → (t : ℕ) → 0 < t → t ≤ horizon p →
-      Encloses p (months_to p t) (weight_of p (lasts_then test p.income t p.opening))
-      (carried_back (month Down p.income p.severity) p t (weighed_row Down (nth p.chances t) weight))
-      (carried_back (month Up p.income p.severity) p t (weighed_row Up (nth p.chances t) weight))
-  unfolding carried_back claims_of
-  tested_enclosure test weight counts t some l =
+  abbrev pub exact_before : ℕ → Row
+  exact_before t s = nth p.chances t * ruin_weight p.severity p.tail (s + p.income)
+
+  -- Document 02, ruin in month t. With rounding left out the rule is W, where each month after t multiplies the weight by S × S …
+  pub unrounded_ruin :
+      (t : ℕ) → 0 < t → t ≤ horizon p →
+      carried_back (exact_month p.income p.severity) p t (exact_before t) * S ^ (2 * (horizon p - t)) ≡ exact_ruin p t
+  unfolding exact_ruin nth
+  unrounded_ruin zero some l = absurd (omega arith)
+  unrounded_ruin (suc i) some l =
+      ap (λ (v : ℕ). v * S ^ (2 * (horizon p - suc i))) (carried_is (exact_month p.income p.severity) p i (exact_before (suc i)))
+      ∙ sym (unrounded_ruin_is_exact p.income p.severity p.tail income_some weights_add p.chances chances_fit i l p.opening)
+      ∙ sym (weight_is p (first_ruin p.income (suc i) p.opening))
+
+  -- … enclosure and gap hold, "the gap rule counting months 1 to t" …
+  pub ruin_enclosure :
+      (t : ℕ) → 0 < t → t ≤ horizon p → Encloses p (months_to p t) (exact_ruin p t) (ruin_lower p t) (ruin_upper p t)
+  unfolding ruin_bound carried_back claims_of
+  ruin_enclosure t some l =
       record {
-        below = rw (← unrounded_tested test weight counts t some l) (one_side downwards);
-        above = rw (← unrounded_tested test weight counts t some l) (one_side upwards);
+        below = rw (← unrounded_ruin t some l) (one_side downwards);
+        above = rw (← unrounded_ruin t some l) (one_side upwards);
         gap = gap;
       }
     where
-      P : ℕ
-      P = nth p.chances t
-
       early : List ℕ
       early = take (t - 1) p.chances
 
@@ -232,57 +231,26 @@ module _ (h : Head) (row : List ℕ) (accepted : Accepted h row) where
 
       one_side :
           {rel : ℕ → ℕ → Type 0} {round : Rounding} (d : Direction rel round) →
-          rel (carried_back (month round p.income p.severity) p t (weighed_row round P weight) * S ^ (2 * horizon p))
-          (carried_back (exact_month p.income p.severity) p t (λ s. P * weight s) * S ^ (2 * (horizon p - t)) * S)
+          rel (ruin_bound round p t * S ^ (2 * horizon p))
+          (carried_back (exact_month p.income p.severity) p t (exact_before t) * S ^ (2 * (horizon p - t)) * S)
       one_side {rel} {round} d =
           rw after at
           (month_scaled d (t - 1) (horizon p) _ _ (omega arith)
           (rw count at
-          (values_enclose d p.income p.severity (rule_of Survive) (λ _. weighed_row round P weight) (λ _ s. P * weight s) S
-          (λ k s. weighed_row_encloses d P weight s) early early_fit 0 p.opening)))
+          (values_enclose d p.income p.severity (rule_of Survive) (λ _. before round t) (λ _. exact_before t) S
+          (λ k s. ruin_row_encloses d p.income p.severity p.tail (nth p.chances t) s) early early_fit 0 p.opening)))
 
-      gap :
-          carried_back (month Up p.income p.severity) p t (weighed_row Up P weight)
-          ≤ carried_back (month Down p.income p.severity) p t (weighed_row Down P weight) + month_gap * live_months (months_to p t)
+      gap : ruin_upper p t ≤ ruin_lower p t + month_gap * live_months (months_to p t)
       gap =
           omega (
             arith,
-            values_gap p.income p.severity severity_fits (rule_of Survive) (λ _. weighed_row Down P weight) (λ _. weighed_row Up P weight) (month_gap * live_months (P ∷ []))
-                (λ k s. weighed_row_gap P weight s) early early_fit 0 p.opening,
-            live_months_append early (P ∷ []),
+            values_gap p.income p.severity severity_fits (rule_of Survive) (λ _. before Down t) (λ _. before Up t) (month_gap * live_months (nth p.chances t ∷ []))
+                (λ k s. ruin_row_gap p.income p.severity p.tail (nth p.chances t) s) early early_fit 0 p.opening,
+            live_months_append early (nth p.chances t ∷ []),
             ap live_months (one_month_more t some l),
           )
 
-  -- the row before month t, where it ruins: exact, in parts of S × S
-  abbrev pub exact_before : ℕ → Row
-  exact_before t s = nth p.chances t * ruin_weight p.severity p.tail (s + p.income)
-
-  -- Document 02, ruin in month t: unrounded it is W …
-  pub unrounded_ruin :
-      (t : ℕ) → 0 < t → t ≤ horizon p →
-      carried_back (exact_month p.income p.severity) p t (exact_before t) * S ^ (2 * (horizon p - t)) ≡ exact_ruin p t
-  unfolding exact_ruin first_ruin
-  unrounded_ruin = unrounded_tested ruins (λ s. ruin_weight p.severity p.tail (s + p.income)) (ruin_counts p.income p.severity p.tail income_some)
-
-  -- … which the bounds enclose …
-  pub ruin_enclosure :
-      (t : ℕ) → 0 < t → t ≤ horizon p → Encloses p (months_to p t) (exact_ruin p t) (ruin_lower p t) (ruin_upper p t)
-  unfolding exact_ruin first_ruin ruin_bound ruin_row
-  ruin_enclosure = tested_enclosure ruins (λ s. ruin_weight p.severity p.tail (s + p.income)) (ruin_counts p.income p.severity p.tail income_some)
-
-  -- … and so of a deficit.
-  pub unrounded_deficit :
-      (i j t : ℕ) → 0 < t → t ≤ horizon p →
-      carried_back (exact_month p.income p.severity) p t (λ s. nth p.chances t * deficit_weight p.income p.severity i j s) * S ^ (2 * (horizon p - t))
-      ≡ exact_deficit p t i j
-  unfolding exact_deficit first_deficit
-  unrounded_deficit i j = unrounded_tested (leaves_deficit i j) _ (deficit_counts p.income p.severity p.tail income_some i j)
-
-  pub deficit_enclosure : (i j t : ℕ) → 0 < t → t ≤ horizon p → EnclosesDeficit p t i j (deficit_lower p t i j) (deficit_upper p t i j)
-  unfolding exact_deficit first_deficit deficit_bound deficit_row
-  deficit_enclosure i j = tested_enclosure (leaves_deficit i j) _ (deficit_counts p.income p.severity p.tail income_some i j)
-
-  -- "The exact chances of all months and of survival make up the whole", …
+  -- … and "The exact chances of all months and of survival make up the whole", …
   pub ruins_and_survival : sum (horizon p) (exact_ruin p) + exact p Survive ≡ S ^ (2 * horizon p)
   unfolding exact_ruin exact keeps
   ruins_and_survival =
@@ -364,24 +332,17 @@ module _ (h : Head) (row : List ℕ) (accepted : Accepted h row) where
   pub bounds_fit : (q : Question) → (lower p q ≤ S) × (upper p q ≤ S)
   bounds_fit q = (bound_fits Down q, bound_fits Up q)
 
-  carried_fits : (round : Rounding) (t : ℕ) (row : Row) → ((s : ℕ) → row s ≤ S) → carried_back (month round p.income p.severity) p t row ≤ S
-  unfolding carried_back
-  carried_fits round t row fits =
-      values_fit round p.income p.severity severity_fits (rule_of Survive) (λ _. row) (λ _. fits)
+  before_fits : (round : Rounding) (t s : ℕ) → before round t s ≤ S
+  before_fits round t s = ruin_row_fits p.income p.severity p.tail weights_fit round (nth p.chances t) (chance_fits t) s
+
+  ruin_fits : (round : Rounding) (t : ℕ) → ruin_bound round p t ≤ S
+  unfolding ruin_bound carried_back
+  ruin_fits round t =
+      values_fit round p.income p.severity severity_fits (rule_of Survive) (λ _. before round t) (λ _ s. before_fits round t s)
       (take (t - 1) p.chances) (take_fits S (t - 1) p.chances chances_fit) (claims_of Survive) p.opening
 
   pub ruins_fit : (t : ℕ) → (ruin_lower p t ≤ S) × (ruin_upper p t ≤ S)
-  unfolding ruin_bound
-  ruins_fit t = (fits Down, fits Up)
-    where
-      fits : (round : Rounding) → carried_back (month round p.income p.severity) p t (ruin_row round p.income p.severity p.tail (nth p.chances t)) ≤ S
-      fits round = carried_fits round t _ (ruin_row_fits p.income p.severity p.tail weights_fit round (nth p.chances t) (chance_fits t))
-
-  pub deficit_fits : (round : Rounding) (t i j : ℕ) → deficit_bound round p t i j ≤ S
-  unfolding deficit_bound deficit_row
-  deficit_fits round t i j =
-      carried_fits round t _
-      (λ s. weighed_row_fits round (nth p.chances t) _ s (chance_fits t) (deficit_weight_fits p.income p.severity severity_fits i j s))
+  ruins_fit t = (ruin_fits Down t, ruin_fits Up t)
 
   pub counts_fit : (k : ℕ) → (count_lower p k ≤ S) × (count_upper p k ≤ S)
   counts_fit k = (count_row_fits Down p.chances chances_fit k, count_row_fits Up p.chances chances_fit k)
@@ -420,31 +381,16 @@ module _ (h : Head) (row : List ℕ) (accepted : Accepted h row) where
   month_limits round q t k s =
       month_within round q (last_of q) (last_fits q) t (drop t p.chances) (λ i. rw get_or-drop (chances_fit (t + i))) k s
 
-  -- in month t of what is carried back from a row before month r, of claims whose weights do not pass S, and in that row
-  weighed_limits :
-      (round : Rounding) (weight : Row) → ((s : ℕ) → weight s ≤ S) → (r t k s : ℕ) →
-      MonthWithin round Survive (λ _. weighed_row round (nth p.chances r) weight) t (drop t (take (r - 1) p.chances)) k s
-      × WeighedLimits (nth p.chances r) (weight s)
-  weighed_limits round weight fits r t k s = (
-    month_within round Survive (λ _. weighed_row round (nth p.chances r) weight) (λ _ l. weighed_row_fits round (nth p.chances r) weight l (chance_fits r) (fits l)) t
-        (drop t (take (r - 1) p.chances)) (λ i. rw get_or-drop (take_fits S (r - 1) p.chances chances_fit (t + i))) k s,
-    weighed_limited (nth p.chances r) (weight s) (chance_fits r) (fits s),
-  )
-
-  -- of a ruin in month r, and of a deficit
+  -- in month t of a ruin in month r, and in the row before month r
   pub ruin_limits :
       (round : Rounding) (r t k s : ℕ) →
-      MonthWithin round Survive (λ _. ruin_row round p.income p.severity p.tail (nth p.chances r)) t (drop t (take (r - 1) p.chances)) k s
-      × WeighedLimits (nth p.chances r) (ruin_weight p.severity p.tail (s + p.income))
-  unfolding ruin_row
-  ruin_limits round = weighed_limits round _ (λ s. ruin_weight_fits p.severity p.tail weights_fit (s + p.income))
-
-  pub deficit_limits :
-      (round : Rounding) (i j r t k s : ℕ) →
-      MonthWithin round Survive (λ _. deficit_row round p.income p.severity (nth p.chances r) i j) t (drop t (take (r - 1) p.chances)) k s
-      × WeighedLimits (nth p.chances r) (deficit_weight p.income p.severity i j s)
-  unfolding deficit_row
-  deficit_limits round i j = weighed_limits round _ (deficit_weight_fits p.income p.severity severity_fits i j)
+      MonthWithin round Survive (λ _. before round r) t (drop t (take (r - 1) p.chances)) k s
+      × RuinLimits p.income p.severity p.tail (nth p.chances r) s
+  ruin_limits round r t k s = (
+    month_within round Survive (λ _. before round r) (λ _ l. before_fits round r l) t (drop t (take (r - 1) p.chances))
+        (λ i. rw get_or-drop (take_fits S (r - 1) p.chances chances_fit (t + i))) k s,
+    ruin_limited p.income p.severity p.tail weights_fit (nth p.chances r) (chance_fits r) s,
+  )
 
   -- the same of month t of the count row, over the row of the months before it
   pub count_limits : (round : Rounding) (t k : ℕ) → CountLimits (nth p.chances t) (count_row round (take (t - 1) p.chances)) k

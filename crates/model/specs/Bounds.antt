@@ -6,8 +6,8 @@ use Rattle.model.specs.declared.Question.{Question}
 use Rattle.model.specs.Scale.{S}
 use Rattle.model.specs.Sums.{sum, count}
 use Rattle.model.specs.Plan.{Plan, horizon, nth}
-use Rattle.model.specs.Exact.{exact, exact_ruin, exact_deficit, exact_count}
-use Rattle.model.specs.MonthRule.{Row, claim_sum, month, value, ruin_row, deficit_row, carried_back}
+use Rattle.model.specs.Exact.{exact, exact_ruin, exact_count}
+use Rattle.model.specs.MonthRule.{Row, claim_sum, month, value, ruin_weight, ruin_row, carried_back}
 use Rattle.model.specs.SplitMonth.{split_parts}
 use Rattle.model.specs.CountRow.{one_before, count_row}
 
@@ -38,17 +38,6 @@ ruin_lower p t = ruin_bound Down p t
 abbrev pub ruin_upper : Plan → ℕ → ℕ
 ruin_upper p t = ruin_bound Up p t
 
--- Document 02, of a deficit j from level i in month t: the same of its row
-unfoldable pub deficit_bound : Rounding → Plan → ℕ → ℕ → ℕ → ℕ
-deficit_bound round p t i j =
-    carried_back (month round p.income p.severity) p t (deficit_row round p.income p.severity (nth p.chances t) i j)
-
-abbrev pub deficit_lower : Plan → ℕ → ℕ → ℕ → ℕ
-deficit_lower p t i j = deficit_bound Down p t i j
-
-abbrev pub deficit_upper : Plan → ℕ → ℕ → ℕ → ℕ
-deficit_upper p t i j = deficit_bound Up p t i j
-
 -- the line `fails all`, "whose two numbers are the sums of the lower and of the upper bounds of the fails lines above it, 0 and 0 with no months"
 abbrev pub ruin_lowers : Plan → ℕ
 ruin_lowers p = sum (horizon p) (ruin_lower p)
@@ -69,7 +58,7 @@ abbrev pub month_gap : ℕ
 month_gap = 1
 
 -- Demand 3 of two numbers low and high, and the weight W of the histories that keep a condition; `gap-months` are the chances of the months that the gap
--- rule counts: all of the plan's for a question and for a place of the count row, those of months 1 to t for ruin in month t and for its deficits
+-- rule counts: all of the plan's for a question and for a place of the count row, those of months 1 to t for ruin in month t
 pub record Encloses (p : Plan) (gap_months : List ℕ) (W low high : ℕ) : Type 0 where
   -- "Enclosure: lower × S^(2n) ≤ W × S ≤ upper × S^(2n)"
   pub below : low * S ^ (2 * horizon p) ≤ W * S
@@ -83,9 +72,6 @@ EnclosesQuestion p q low high = Encloses p p.chances (exact p q) low high
 
 abbrev pub EnclosesRuin : Plan → ℕ → ℕ → ℕ → Type 0
 EnclosesRuin p t low high = Encloses p (months_to p t) (exact_ruin p t) low high
-
-abbrev pub EnclosesDeficit : Plan → ℕ → ℕ → ℕ → ℕ → ℕ → Type 0
-EnclosesDeficit p t i j low high = Encloses p (months_to p t) (exact_deficit p t i j) low high
 
 abbrev pub EnclosesCount : Plan → ℕ → ℕ → ℕ → Type 0
 EnclosesCount p k low high = Encloses p p.chances (exact_count p k) low high
@@ -107,7 +93,7 @@ pub record MonthLimits (round : Rounding) (income : ℕ) (severity : List ℕ) (
 pub record CountLimits (P : ℕ) (row : Row) (k : ℕ) : Type 0 where
   pub month_total : P * one_before row k + (S - P) * row k + (S - 1) ≤ largest
 
--- … and of a row before a month, at a level where claims of this weight count
-pub record WeighedLimits (P weight : ℕ) : Type 0 where
-  pub weight_total : weight ≤ largest
-  pub month_total : P * weight + (S - 1) ≤ largest
+-- … and of the row before the month of a ruin, at a level
+pub record RuinLimits (income : ℕ) (severity : List ℕ) (tail P s : ℕ) : Type 0 where
+  pub weight : ruin_weight severity tail (s + income) ≤ largest
+  pub month_total : P * ruin_weight severity tail (s + income) + (S - 1) ≤ largest

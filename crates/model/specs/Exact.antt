@@ -1,10 +1,10 @@
 -- The exact side: which histories keep a condition, and what they weigh together. Nothing here is rounded or uses the month rule.
-use Rattle.std.specs.Prelude.{ℕ, ◌-◌, Bool, ◌&&◌, cond, List, ◌∷◌, map, leb, eqb, pos, get_or, take}
+use Rattle.std.specs.Prelude.{ℕ, ◌-◌, Bool, ◌&&◌, cond, List, map, leb, eqb, pos, get_or, take}
 use Rattle.model.specs.declared.Question.{Question}
 use Rattle.model.specs.declared.Question.TheVariants.{Survive, Both, High, Low}
 use Rattle.model.specs.Sums.{total, all}
 use Rattle.model.specs.Plan.{Plan, horizon, sizes}
-use Rattle.model.specs.History.{History, Surplus, known, surplus_path, at_least, at_most, at_level, has_deficit, is_lost, claims, histories, history_weight}
+use Rattle.model.specs.History.{History, Surplus, known, surplus_path, at_least, at_most, claims, histories, history_weight}
 
 -- U_1 to U_n where the fund opens at u
 abbrev pub path_from : ℕ → ℕ → History → List Surplus
@@ -26,37 +26,11 @@ keeps income (Low L) u h = survives income u h && all (at_least L) (path_from in
 unfoldable pub has_claims : ℕ → History → Bool
 has_claims k h = eqb (claims h) k
 
--- Up to month t − 1 the fund lasts, U_1 to U_{t−1} at least 1, and U_{t−1} and U_t pass a test; U_{t−1} is the opening where t = 1. Months are counted from 1,
--- so U_t has the index t − 1 in the path; a month that the path does not have leads to a surplus of 1.
-unfoldable pub lasts_then : (Surplus → Surplus → Bool) → ℕ → ℕ → ℕ → History → Bool
-lasts_then test income t u h =
-    all (at_least 1) (take (t - 1) (path_from income u h))
-    && test (get_or (known (pos u) ∷ path_from income u h) (t - 1) (known (pos 1))) (get_or (path_from income u h) (t - 1) (known (pos 1)))
-
--- Document 02: the "first ruin falls" in month t, U_t ≤ 0. An over claim in month t is such a ruin.
-abbrev pub ruins : Surplus → Surplus → Bool
-ruins before after = at_most 0 after
-
+-- Document 02: the "first ruin falls" in month t, U_i ≥ 1 for i below t and U_t ≤ 0. An over claim in month t is such a ruin. Months are counted from 1, so
+-- U_t has the index t − 1; a month that the path does not have ruins nothing.
 unfoldable pub first_ruin : ℕ → ℕ → ℕ → History → Bool
-first_ruin income t u h = lasts_then ruins income t u h
-
--- Document 02: "ruin first comes in month t, from level i, at a fund level of minus j". The claim's size is then known, so that it is one of the table.
-abbrev pub leaves_deficit : ℕ → ℕ → Surplus → Surplus → Bool
-leaves_deficit i j before after = at_level i before && has_deficit j after
-
-unfoldable pub first_deficit : ℕ → ℕ → ℕ → ℕ → ℕ → History → Bool
-first_deficit income t i j u h = lasts_then (leaves_deficit i j) income t u h
-
--- first ruin in month t by an over claim, which leaves no known deficit
-abbrev pub loses : Surplus → Surplus → Bool
-loses before after = is_lost after
-
-unfoldable pub first_loss : ℕ → ℕ → ℕ → History → Bool
-first_loss income t u h = lasts_then loses income t u h
-
--- U_{t−1} = i before month t, which the fund lasts to
-unfoldable pub has_level : ℕ → ℕ → ℕ → ℕ → History → Bool
-has_level income t i u h = lasts_then (λ before after. at_level i before) income t u h
+first_ruin income t u h =
+    all (at_least 1) (take (t - 1) (path_from income u h)) && at_most 0 (get_or (path_from income u h) (t - 1) (known (pos 1)))
 
 -- "the weight of the histories that keep the condition"
 unfoldable pub weight_of : Plan → (History → Bool) → ℕ
@@ -73,15 +47,3 @@ exact_count p k = weight_of p (has_claims k)
 -- "The exact chance is the weight of the histories whose first ruin falls there": W of a month's line `fails t`
 unfoldable pub exact_ruin : Plan → ℕ → ℕ
 exact_ruin p t = weight_of p (first_ruin p.income t p.opening)
-
--- Document 02: "survive to t − 1 at level i, then a claim of size i + j + c", the joint distribution of source document 004, Theorem 2
-unfoldable pub exact_deficit : Plan → ℕ → ℕ → ℕ → ℕ
-exact_deficit p t i j = weight_of p (first_deficit p.income t i j p.opening)
-
--- "over claims … stay in the fails lines alone"
-unfoldable pub exact_loss : Plan → ℕ → ℕ
-exact_loss p t = weight_of p (first_loss p.income t p.opening)
-
--- the weight of the histories that come to level i before month t
-unfoldable pub exact_level : Plan → ℕ → ℕ → ℕ
-exact_level p t i = weight_of p (has_level p.income t i p.opening)

@@ -1,5 +1,5 @@
 -- Claim histories, from the plan's numbers alone: their weights and the surplus of the fund.
-use Rattle.std.specs.Prelude.{ℕ, zero, suc, ◌*◌, ◌-◌, Bool, true, false, ◌&&◌, leb, eqb, ℤ, pos, negsuc, ◌+ℤ◌, ◌-ℤ◌}
+use Rattle.std.specs.Prelude.{ℕ, zero, suc, ◌*◌, ◌-◌, Bool, true, false, leb, ℤ, pos, negsuc, ◌+ℤ◌, ◌-ℤ◌}
 use mathlib.Core.List.{List, [], ◌∷◌, map, flat_map, foldr, zip_with}
 use Rattle.model.specs.Scale.{S}
 use Rattle.model.specs.Sums.{one_to, count}
@@ -62,23 +62,6 @@ unfoldable pub at_most : ℕ → Surplus → Bool
 at_most L (known (pos z)) = leb z L
 at_most L (known (negsuc z)) = true
 at_most L lost = true
-
--- U_t = i, for a level i of 0 or more
-unfoldable pub at_level : ℕ → Surplus → Bool
-at_level i (known (pos z)) = eqb z i
-at_level i (known (negsuc z)) = false
-at_level i lost = false
-
--- Document 02: "a fund level of minus j", U_t = −j; "over claims have no known deficit". The whole number negsuc z is −(z + 1).
-unfoldable pub has_deficit : ℕ → Surplus → Bool
-has_deficit j (known (pos z)) = eqb z 0 && eqb j 0
-has_deficit j (known (negsuc z)) = eqb (suc z) j
-has_deficit j lost = false
-
--- an over claim has come
-unfoldable pub is_lost : Surplus → Bool
-is_lost (known z) = false
-is_lost lost = true
 
 -- "An over claim counts as one claim"
 unfoldable pub is_claim : Event → Bool

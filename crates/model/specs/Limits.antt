@@ -18,7 +18,7 @@ max_sizes = 320
 abbrev pub max_claims : ℕ
 max_claims = 24
 
--- "L in high and low up to 320"; document 02 of a deficit, too: "i or j above 320"
+-- "L in high and low up to 320"
 abbrev pub max_level : ℕ
 max_level = 320
 

@@ -1,5 +1,5 @@
 -- The month rule, with its rounding as a parameter.
-use Rattle.std.specs.Prelude.{ℕ, zero, suc, ◌+◌, ◌*◌, ◌-◌, min, Bool, true, cond, List, [], ◌∷◌, leb, eqb, length, take, drop}
+use Rattle.std.specs.Prelude.{ℕ, zero, suc, ◌+◌, ◌*◌, ◌-◌, min, Bool, true, cond, List, [], ◌∷◌, leb, length, take, drop}
 use Rattle.std.proofs.Math.Option.{Option, none, some}
 use Rattle.model.specs.declared.Rounding.{Rounding}
 use Rattle.model.specs.declared.Question.{Question}
@@ -115,22 +115,9 @@ value one_month p q = kept (opening_allowed q) (opening_row one_month p q) p.ope
 unfoldable pub ruin_weight : List ℕ → ℕ → ℕ → ℕ
 ruin_weight severity tail level = total (drop (level - 1) severity) + tail
 
--- A row before month t: "the value before it at level s is P_t times the weight …, divided by S and rounded each way", the weight of the claims that count, by
--- the level before the month
-unfoldable pub weighed_row : Rounding → ℕ → Row → Row
-weighed_row round P weight s = quotient round (P * weight s) S
-
--- … those that ruin
+-- "For month t the value before it at level s is P_t times the weight …, divided by S and rounded each way"
 unfoldable pub ruin_row : Rounding → ℕ → List ℕ → ℕ → ℕ → Row
-ruin_row round income severity tail P = weighed_row round P (λ s. ruin_weight severity tail (s + income))
-
--- Document 02: "F of that size", i + j + c, "at level i, and 0 at all others. A size above m gives 0"
-unfoldable pub deficit_weight : ℕ → List ℕ → ℕ → ℕ → Row
-deficit_weight income severity i j s = cond (eqb s i) (nth severity (i + j + income)) 0
-
--- … those that leave a deficit of j from level i
-unfoldable pub deficit_row : Rounding → ℕ → List ℕ → ℕ → ℕ → ℕ → Row
-deficit_row round income severity P i j = weighed_row round P (deficit_weight income severity i j)
+ruin_row round income severity tail P s = quotient round (P * ruin_weight severity tail (s + income)) S
 
 -- "the month rule carries it back to the opening": a row before month t through the months t − 1 to 1, which forbid no level
 unfoldable pub carried_back : Month → Plan → ℕ → Row → ℕ

@@ -60,10 +60,6 @@ outside (Low L) = ltb max_level L
 unfoldable pub month_outside : Head → ℕ → Bool
 month_outside h t = eqb t 0 || ltb h.months t
 
--- 10 question, of a deficit: "It refuses t of 0 or above n, or i or j above 320, with 10."
-unfoldable pub deficit_outside : Head → ℕ → ℕ → ℕ → Bool
-deficit_outside h t i j = month_outside h t || ltb max_level i || ltb max_level j
-
 -- "Desk needs: survive, high, low 2 × (u + n + 1) numbers of 32 bits; both k that times k + 1", with u + c × n for u + n
 unfoldable pub rows_needed : Question → ℕ
 rows_needed Survive = 1
@@ -111,10 +107,6 @@ survival_workspace h = workspace_needed (record { head = h; question = Survive }
 -- Ruin in a month
 abbrev pub ruin_refusal : Head → ℕ → List ℕ → ℕ → ℕ
 ruin_refusal h t row room = bounds_refusal h row (10, month_outside h t) (survival_workspace h) room
-
--- A deficit in a month: "the desk is that of survive"
-abbrev pub deficit_refusal : Head → ℕ → ℕ → ℕ → List ℕ → ℕ → ℕ
-deficit_refusal h t i j row room = bounds_refusal h row (10, deficit_outside h t i j) (survival_workspace h) room
 
 -- The count row: the head and the row, and no room
 abbrev pub count_refusal : Head → List ℕ → ℕ

@@ -6,10 +6,6 @@ unfoldable pub sum : ℕ → (ℕ → ℕ) → ℕ
 sum zero f = 0
 sum (suc n) f = f 1 + sum n (λ x. f (suc x))
 
--- f 0 + … + f n
-abbrev pub sum_from_0 : ℕ → (ℕ → ℕ) → ℕ
-sum_from_0 n f = f 0 + sum n f
-
 -- f 1 × … × f n
 unfoldable pub product : ℕ → (ℕ → ℕ) → ℕ
 product zero f = 1

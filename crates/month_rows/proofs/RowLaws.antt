@@ -33,7 +33,7 @@ claim_sum_agree (f ∷ F) Y Z (suc (suc r)) h =
     )
 
 -- numbers of at most S: after a store, and in a part
-pub parts_set : (xs : List ℕ) (i v : ℕ) → Parts xs → v ≤ S → Parts (set xs i v)
+parts_set : (xs : List ℕ) (i v : ℕ) → Parts xs → v ≤ S → Parts (set xs i v)
 parts_set xs i v h l = record { each = go xs i h.each }
   where
     go : (xs : List ℕ) (i : ℕ) → ((k : ℕ) → get_or xs k 0 ≤ S) → (k : ℕ) → get_or (set xs i v) k 0 ≤ S

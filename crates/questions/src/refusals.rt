@@ -1,10 +1,10 @@
 // When a call that answers two bounds is turned away, in the order of the refusal table.
 ghost use Rattle.std.specs.Prelude.{◌≡◌, false, ◌<◌};
-ghost use Rattle.model.specs.Refusal.{first, asked_checks, workspace_needed, month_outside, deficit_outside, bounds_refusal, ask_refusal, ruin_refusal, deficit_refusal};
+ghost use Rattle.model.specs.Refusal.{first, asked_checks, workspace_needed, month_outside, bounds_refusal, ask_refusal, ruin_refusal};
 ghost use Rattle.model.specs.Refusal.{outside as Refusal·outside};
 
 use crate::needs::{is_outside, workspace_needed};
-use model::{Ask, Head, Question, limits};
+use model::{Ask, Head, Question};
 
 // The checks of the plan, then the number of what is asked of it, where that is outside the limits.
 pub fn asked_refusal(head: Head, row: &[u32], number: u32, outside: bool) -> u32
@@ -58,40 +58,6 @@ pub fn ruin_refusal(head: Head, month: usize, row: &[u32], room: usize) -> u32
         row,
         10,
         month_is_outside(head, month),
-        room,
-    )
-}
-
-// A month of the plan, and a level before it and a deficit within their limit.
-fn deficit_is_outside(head: Head, month: usize, level: usize, deficit: usize) -> bool
-    ensures { result ≡ deficit_outside head month level deficit }
-{
-    if month_is_outside(head, month) {
-        return true;
-    }
-    if limits::LEVEL < level {
-        return true;
-    }
-    limits::LEVEL < deficit
-}
-
-// In the workspace of survive.
-pub fn deficit_refusal(
-    head: Head,
-    month: usize,
-    level: usize,
-    deficit: usize,
-    row: &[u32],
-    room: usize,
-) -> u32
-    ensures { result ≡ deficit_refusal head month level deficit row.now room }
-{
-    let question = Question::Survive;
-    bounds_refusal(
-        Ask { head, question },
-        row,
-        10,
-        deficit_is_outside(head, month, level, deficit),
         room,
     )
 }
