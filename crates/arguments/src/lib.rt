@@ -1,4 +1,6 @@
 // What a program was asked, from its arguments: a number, or a question and its number.
+#![tactic(auto)]
+
 mod digits;
 
 ghost use Rattle.std.specs.Prelude.{◌≡◌};

@@ -1,1 +1,2 @@
 // No code: laws of the numbers that several calls answer, in proofs/.
+#![tactic(auto)]

@@ -1,4 +1,6 @@
 // The planner's chart: from the bytes of a plan to a line for each opening from 0 to the plan's, or why there is none.
+#![tactic(auto)]
+
 ghost use Rattle.std.specs.Prelude.{◌≡◌, ◌+◌, ◌*◌, ◌≤◌, ◌++◌, length, take, drop};
 ghost use Rattle.model.specs.Plan.{row_length};
 ghost use Rattle.model.specs.Refusal.{Accepted};

@@ -1,4 +1,6 @@
 // The checksum of lent numbers, as the test programs print it.
+#![tactic(auto)]
+
 ghost use Rattle.std.specs.Prelude.{◌≡◌};
 ghost use Rattle.checksums.specs.Checksum.{more, checksum};
 

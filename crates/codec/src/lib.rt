@@ -1,4 +1,6 @@
 // Plan bytes: reading them into a lent row, and writing a head and a row into lent bytes.
+#![tactic(auto)]
+
 ghost use Rattle.std.specs.Prelude.{◌≡◌, length};
 ghost use Rattle.codec.specs.Answers.{read_answer, row_after, byte_plan, write_answer, bytes_after};
 

@@ -1,4 +1,6 @@
 // The count row: bounds for each number of claims in a plan's months, ruin or not, in one call.
+#![tactic(auto)]
+
 mod counts;
 
 ghost use Rattle.std.specs.Prelude.{◌≡◌, ℕ, ◌<◌, get_or};

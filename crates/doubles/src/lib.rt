@@ -1,4 +1,6 @@
 // The doubles of a rule sheet: from any bits, tested, and as parts of S, by their bits.
+#![tactic(auto)]
+
 ghost use Rattle.std.specs.Prelude.{◌≡◌, true, ◌/◌};
 ghost use Rattle.std.specs.Float.{binary64};
 ghost use Rattle.std.specs.Float.Ieee.{le, of_bits};

@@ -1,4 +1,6 @@
 // The calls that the planner's programs make: the four questions, and ruin in a month.
+#![tactic(auto)]
+
 mod answers;
 mod bounds;
 

@@ -1,5 +1,7 @@
 // The least opening that is good enough: reads one plan from standard input and writes the smallest opening whose lower survival bound reaches the
 // target, with its bounds, or why there is none, to standard output. The target is the one argument.
+#![tactic(auto)]
+
 use libc::{STDERR_FILENO, STDIN_FILENO, STDOUT_FILENO};
 
 // The program's name is counted too. Without a target nothing is read.

@@ -1,4 +1,6 @@
 // The report on a mixture: reads the bytes of a mix from standard input and writes its report, or why it is refused, to standard output.
+#![tactic(auto)]
+
 use libc::{STDIN_FILENO, STDOUT_FILENO};
 
 // The buffer holds more than the longest mix, so that a longer input is never taken for one. A mix that could not be read has no report.

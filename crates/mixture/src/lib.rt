@@ -1,4 +1,6 @@
 // A question asked of a mixture, document 02's mix: one chance out of several.
+#![tactic(auto)]
+
 ghost use Rattle.std.specs.Prelude.{◌≡◌, length};
 ghost use Rattle.model.specs.Refusal.{workspace_needed};
 ghost use Rattle.model.specs.Memory.{zero_first};

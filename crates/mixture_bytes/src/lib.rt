@@ -1,4 +1,6 @@
 // The bytes of a mixture, read into a head and a weight for each plan and one row with the plans' rows end to end.
+#![tactic(auto)]
+
 ghost use Rattle.std.specs.Prelude.{◌≡◌, cond, ◌+◌, ◌*◌, ◌≤◌, ◌<◌, min, length, take};
 ghost use Rattle.model.specs.Limits.{max_plans, row_room, rows_room};
 ghost use Rattle.model.specs.Format.{head_bytes, head_of, byte_length};

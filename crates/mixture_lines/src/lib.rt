@@ -1,5 +1,7 @@
 // The report of a mixture, document 02's mix: the layer below the call that reads one. What its functions require, an accepted mixture, questions within the
 // limits and enough room give.
+#![tactic(auto)]
+
 ghost use Rattle.std.specs.Prelude.{◌≡◌, false, ◌+◌, ◌*◌, ◌≤◌, length};
 ghost use Rattle.model.specs.Refusal.{outside};
 ghost use Rattle.mixture_plans.specs.Rows.{components_of};

@@ -1,4 +1,6 @@
 // The plans of a mixture: how they lie in one row, and when they are refused.
+#![tactic(auto)]
+
 ghost use Rattle.std.specs.Prelude.{◌≡◌, true, cond, ◌+◌, ◌-◌, ◌≤◌, min, eqb, length, take, drop};
 ghost use Rattle.numbers.specs.Same.{same};
 ghost use Rattle.model.specs.Scale.{S};

@@ -1,4 +1,6 @@
 // The report of a mixture: from its bytes to the text that document 02's mix gets.
+#![tactic(auto)]
+
 ghost use Rattle.std.specs.Prelude.{◌≡◌, ◌≤◌, ◌++◌, length, take, drop};
 ghost use Rattle.model.specs.Limits.{workspace_room};
 ghost use Rattle.mixture_plans.specs.Rows.{components_of};

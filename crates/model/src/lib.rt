@@ -1,4 +1,6 @@
 // What a plan and a question are in memory, and their limits.
+#![tactic(auto)]
+
 pub mod limits;
 
 // S: chances, weights and bounds count in parts of it.

@@ -1,4 +1,6 @@
 // What more than one crate does with numbers. The widenings are calls, since on an element of a slice a call asks for no proof that it fits.
+#![tactic(auto)]
+
 ghost use Rattle.std.specs.Prelude.{◌≡◌, ◌+◌, ◌-◌, ◌*◌, ◌^◌, ◌<◌, ◌≤◌, min, length, take, drop};
 ghost use Rattle.numbers.specs.Bytes.{big_endian};
 

@@ -1,4 +1,6 @@
 // The least opening that is good enough: a call above the engine's, for those who quote.
+#![tactic(auto)]
+
 mod search;
 
 ghost use Rattle.std.specs.Prelude.{◌≡◌, ℕ, ◌≤◌, length};

@@ -1,5 +1,7 @@
 // The planner's chart: reads one plan from standard input and writes the bounds of survival at each opening from 0 to the plan's, or why it is refused, to
 // standard output.
+#![tactic(auto)]
+
 use libc::{STDIN_FILENO, STDOUT_FILENO};
 
 // The buffer holds more than the longest plan, so that a longer input is never taken for one. A plan that could not be read has no chart.

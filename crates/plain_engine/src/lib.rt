@@ -1,4 +1,6 @@
 // The plain engine for small plans: the four questions answered without rows, by asking for the values that each value needs.
+#![tactic(auto)]
+
 pub mod steps;
 pub mod value;
 

@@ -1,4 +1,6 @@
 // The checks of a plan in memory, in the order of the table of documents 01 and 02: one function for asking, counting, reading and writing.
+#![tactic(auto)]
+
 pub mod lengths;
 
 ghost use Rattle.std.specs.Prelude.{◌≡◌, ◌≤◌, ◌^◌, ltb, length};

@@ -1,5 +1,7 @@
 // The tree of a small plan: reads one plan from standard input and writes its nodes month by month, each with what its value follows from, or why there are
 // none, to standard output. The question is in the arguments, in the report's words; without any it is survive.
+#![tactic(auto)]
+
 use libc::{STDERR_FILENO, STDIN_FILENO, STDOUT_FILENO};
 use model::Question;
 use numbers::difference;

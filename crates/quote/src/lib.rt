@@ -1,4 +1,6 @@
 // The quoting desk's line: from the bytes of a plan and a target to the least opening that reaches it, or why there is none.
+#![tactic(auto)]
+
 ghost use Rattle.std.specs.Prelude.{◌≡◌, ◌≤◌, ◌++◌, length, take, drop};
 ghost use Rattle.model.specs.Limits.{survival_room};
 ghost use Rattle.model.specs.Plan.{row_length};

@@ -1,4 +1,6 @@
 // The groups of lines of the report: those of each question, and those of the count row.
+#![tactic(auto)]
+
 ghost use Rattle.std.specs.Prelude.{◌≡◌, ◌+◌, ◌*◌, ◌<◌, ◌≤◌, length};
 ghost use Rattle.model.specs.Plan.{plan_of};
 ghost use Rattle.model.specs.Refusal.{HeadAccepted, Accepted};

@@ -1,4 +1,6 @@
 // The reserve report of documents 01 and 02: from the bytes of a plan to the text of its report.
+#![tactic(auto)]
+
 ghost use Rattle.std.specs.Prelude.{◌≡◌, ◌≤◌, ◌++◌, length, take, drop};
 ghost use Rattle.model.specs.Limits.{workspace_room};
 ghost use Rattle.model.specs.Plan.{row_length};

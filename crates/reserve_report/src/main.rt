@@ -1,4 +1,6 @@
 // The reserve report: reads one plan from standard input and writes its report, or why it is refused, to standard output.
+#![tactic(auto)]
+
 use libc::{STDIN_FILENO, STDOUT_FILENO};
 
 // The buffer holds more than the longest plan, so that a longer input is never taken for one. A plan that could not be read has no report.

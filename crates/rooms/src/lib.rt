@@ -1,4 +1,6 @@
 // Memory to lend, all 0, with room for every plan. The second `ensures` of each gives the length, which lending an array needs.
+#![tactic(auto)]
+
 ghost use Rattle.std.specs.Prelude.{◌≡◌, length, replicate};
 ghost use Rattle.model.specs.Limits.{row_room, rows_room, survival_room, bounds_room, workspace_room};
 

@@ -1,4 +1,6 @@
 // Values rounded either way, in plain machine arithmetic: a quotient by the scale, two values mixed by a chance, a value of the month rule.
+#![tactic(auto)]
+
 ghost use Rattle.std.specs.Prelude.{◌≡◌, ◌+◌, ◌*◌, ◌-◌, ◌<◌, ◌≤◌};
 ghost use Rattle.model.specs.Scale.{S, quotient};
 

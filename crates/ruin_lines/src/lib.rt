@@ -1,5 +1,7 @@
 // The lines of ruin in each month, and the line of their sums: the layer below the report's call. What its functions require, an accepted plan and enough room
 // give.
+#![tactic(auto)]
+
 ghost use Rattle.std.specs.Prelude.{◌≡◌, false, ◌+◌, ◌*◌, ◌^◌, ◌<◌, ◌≤◌, length};
 ghost use Rattle.model.specs.declared.Question.TheVariants.{Survive};
 ghost use Rattle.model.specs.Plan.{plan_of};

@@ -1,4 +1,6 @@
 // The rows before a month in which the fund may first be ruined, in lent memory: where the walk back through the months before it begins.
+#![tactic(auto)]
+
 ghost use Rattle.std.specs.Prelude.{◌≡◌, ◌+◌, ◌*◌, ◌-◌, ◌^◌, ◌<◌, ◌≤◌, length, take, drop, replicate};
 ghost use Rattle.model.specs.Scale.{S};
 ghost use Rattle.model.specs.declared.Rounding.TheVariants.{Down, Up};

@@ -1,5 +1,7 @@
 // A rule sheet into a plan file: reads a sheet from standard input and writes the bytes of its plan to standard output. A refused sheet writes nothing
 // there, so that no broken plan is left behind, and one line, `refused ` and the number, to standard error.
+#![tactic(auto)]
+
 use libc::{STDERR_FILENO, STDIN_FILENO, STDOUT_FILENO};
 
 // The buffer holds more than a sheet, so that a longer input is never taken for one. A sheet that could not be read has no plan.

@@ -1,4 +1,6 @@
 // When a sheet is turned away, in the order of its checks: the layer below a sheet's calls.
+#![tactic(auto)]
+
 ghost use Rattle.std.specs.Prelude.{◌≡◌, true, not, ◌&&◌, ◌||◌, eqb, length};
 ghost use Rattle.std.specs.Float.Ieee.{lt, ne};
 ghost use Rattle.std.specs.Float.Ieee.Scale.{finite};

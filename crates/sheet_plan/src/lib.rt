@@ -1,4 +1,6 @@
 // The actuary's rule sheets: a sheet's bytes into the plan that its rules make, as a head and a row or as plan bytes.
+#![tactic(auto)]
+
 ghost use Rattle.std.specs.Prelude.{◌≡◌, ◌≤◌, length, take};
 ghost use Rattle.codec.specs.Answers.{no_head};
 ghost use Rattle.sheet_plan.specs.Answers.{sheet_answer, sheet_row_after, plan_answer, plan_bytes_after};

@@ -1,5 +1,7 @@
 // What a rule sheet's bytes hold, and the chances and weights that its rules make: the layer below a sheet's calls. What its functions require, the checks of
 // a sheet give.
+#![tactic(auto)]
+
 pub mod bytes;
 pub mod rules;
 

@@ -1,6 +1,8 @@
 // Streams read and written whole by the programs. Where reading or writing fails, one line on standard error says of what, and why; otherwise nothing
 // is written there. Of that line no contract can speak, nor of what the system gives and takes: `test_failures` holds both to expected lines. Each
 // line stands in one branch with the answer that it goes with, so that the contract holds the test of the branch.
+#![tactic(auto)]
+
 ghost use Rattle.std.specs.Prelude.{◌≡◌, not, eqb, length};
 ghost use Rattle.std.specs.Int.Signed.{non_neg};
 ghost use Rattle.io.specs.Counts.{IsPrefixLen};

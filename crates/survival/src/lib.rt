@@ -1,4 +1,6 @@
 // Survival at every opening of a plan, from 0 to its own: one call for the planner's chart.
+#![tactic(auto)]
+
 mod rows;
 
 ghost use Rattle.std.specs.Prelude.{◌≡◌, ℕ, ◌+◌, ◌*◌, ◌≤◌, length, get_or};

@@ -1,5 +1,7 @@
 // Reads and writes where that fails, and where it does not: a line for each on standard output, with what `streams` answered, and after it what was
 // said on standard error meanwhile. A file stands in place of standard error.
+#![tactic(auto)]
+
 use libc::{STDERR_FILENO, STDOUT_FILENO};
 
 // A descriptor that nothing has opened.

@@ -1,5 +1,7 @@
 // Holds the calls on mixtures to expected values: reads records from standard input and writes what each asks for. docs/src/records.py says how they are
 // laid out; docs/src/reference.py writes them and the text expected.
+#![tactic(auto)]
+
 mod calls;
 mod figures;
 mod record;

@@ -1,5 +1,7 @@
 // The reserve reports of the plans on standard input, one after another, which the gate holds to those of docs/src/reference.py. A plan comes
 // as two bytes with its length, most significant first, and its bytes.
+#![tactic(auto)]
+
 use libc::{STDIN_FILENO, STDOUT_FILENO};
 use numbers::big_endian;
 

@@ -1,5 +1,7 @@
 // Holds the calls on rule sheets to expected values: reads a list of calls from standard input and writes what each answered and left in lent memory.
 // docs/src/records.py says how the list is laid out; docs/src/reference.py writes it and the lines expected.
+#![tactic(auto)]
+
 mod calls;
 
 use libc::STDIN_FILENO;

@@ -1,5 +1,7 @@
 // Survival of the plans on standard input, in ten-thousandths of both bounds: the figures of source document 000's tables 2 and 3, which
 // docs/src/tables.py has. A plan comes as two bytes with its length, most significant first, and its bytes.
+#![tactic(auto)]
+
 ghost use Rattle.std.specs.Prelude.{◌≡◌};
 ghost use Rattle.test_tables.specs.Rounded.{ten_thousandths};
 

@@ -1,5 +1,7 @@
 // The trees of the plans on standard input, one after another, which the gate holds to those of docs/src/reference.py. A record comes as two bytes with its
 // length, most significant first, and its bytes: one for the question, four with its number, and the plan's.
+#![tactic(auto)]
+
 use libc::{STDIN_FILENO, STDOUT_FILENO};
 use model::Question;
 use numbers::big_endian;

@@ -1,5 +1,7 @@
 // Holds the calls to expected values: reads a list of calls from standard input and writes a line for each, with what the call answered and
 // what it left in lent memory. docs/src/records.py says how the list is laid out; docs/src/reference.py writes it and the lines expected.
+#![tactic(auto)]
+
 mod calls;
 mod format;
 mod openings;

@@ -1,4 +1,6 @@
 // Lines of text, appended to a buffer. Each function takes the place where the text ends and answers the new one.
+#![tactic(auto)]
+
 ghost use Rattle.std.specs.Prelude.{◌+◌, ◌≤◌, ◌<◌, [], ◌∷◌, length};
 ghost use Rattle.text.specs.Text.{Appended};
 ghost use Rattle.text.specs.Text.{decimal as Text·decimal, spaced as Text·spaced, entry as Text·entry, line as Text·line};

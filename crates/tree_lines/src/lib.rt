@@ -1,4 +1,6 @@
 // The lines of a node of a small plan's tree, appended to a text: the node, and below it what its value follows from.
+#![tactic(auto)]
+
 ghost use Rattle.std.specs.Prelude.{suc, ◌+◌, ◌^◌, ◌<◌, ◌≤◌, length};
 ghost use Rattle.model.specs.Scale.{S};
 ghost use Rattle.model.specs.Sums.{total};

@@ -1,4 +1,6 @@
 // The nodes of a small plan's tree: which levels are followed, and which nodes are reached from the opening.
+#![tactic(auto)]
+
 ghost use Rattle.std.specs.Prelude.{◌≡◌, ◌&&◌, ◌||◌, ◌+◌, ◌*◌, ◌-◌, ◌^◌, ◌<◌, ltb, length};
 ghost use Rattle.model.specs.Scale.{S};
 ghost use Rattle.tree_nodes.specs.Nodes.{node_allowed};

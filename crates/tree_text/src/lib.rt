@@ -1,4 +1,6 @@
 // The tree of a small plan as text: from the bytes of a plan and a question to the nodes month by month, or why there are none.
+#![tactic(auto)]
+
 ghost use Rattle.std.specs.Prelude.{◌≡◌, ◌++◌, ◌+◌, ◌≤◌, length, take, drop};
 ghost use Rattle.model.specs.Refusal.{Accepted};
 ghost use Rattle.text.specs.Text.{Appended};

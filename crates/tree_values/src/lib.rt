@@ -1,4 +1,6 @@
 // A node of a small plan's tree after a word: its level, the claims left and its value, appended to a text.
+#![tactic(auto)]
+
 ghost use Rattle.std.specs.Prelude.{◌≡◌, ◌+◌, ◌≤◌, length};
 ghost use Rattle.text.specs.Text.{Appended};
 ghost use Rattle.plain_engine.specs.Steps.{Terms};
