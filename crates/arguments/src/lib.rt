@@ -12,14 +12,14 @@ use check::same;
 use model::Question;
 
 // A number, and whether it could be read; 0 where it could not.
-#[derive(Drop)]
+#[derive(Clone, Copy)]
 pub struct Number {
     pub readable: bool,
     pub value: u32,
 }
 
 // A question, and whether the words are one; survive where they are not.
-#[derive(Drop)]
+#[derive(Clone, Copy)]
 pub struct Asked {
     pub readable: bool,
     pub question: Question,

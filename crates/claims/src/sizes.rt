@@ -21,7 +21,7 @@ fn gapless_sizes(severity: &[u32]) -> usize
 }
 
 // The first `count` numbers are the listed sizes, the largest first; those up to `dense` are filled besides and not listed.
-#[derive(Drop)]
+#[derive(Clone, Copy)]
 pub struct FilledSizes {
     pub sizes: [usize; limits::SIZES],
     pub count: usize,

@@ -10,7 +10,7 @@ use model::WIDE_SCALE;
 use numbers::{lesser, wide};
 
 // The claim sum by its quotient by S and what is left over, and how many products of weights and values were added.
-#[derive(Drop)]
+#[derive(Clone, Copy)]
 pub struct ClaimSum {
     pub quotient: u64,
     pub remainder: u64,
@@ -18,7 +18,7 @@ pub struct ClaimSum {
 }
 
 // Products added, and how many.
-#[derive(Drop)]
+#[derive(Clone, Copy)]
 struct ProductSum {
     sum: u64,
     products: usize,

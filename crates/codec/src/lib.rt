@@ -9,14 +9,14 @@ use plan_bits::{format, reading, writing};
 use rooms::blank_row;
 
 // What reading answers: the refusal's number, 0 if there is none, and the plan's head, all zero if it is refused.
-#[derive(Drop)]
+#[derive(Clone, Copy)]
 pub struct ReadAnswer {
     pub refusal: u32,
     pub head: Head,
 }
 
 // A plan as it is read from bytes, with a row of its own, which has room for every plan's; past the plan's it is 0.
-#[derive(Drop)]
+#[derive(Clone, Copy)]
 pub struct BytePlan {
     pub refusal: u32,
     pub head: Head,
@@ -24,7 +24,7 @@ pub struct BytePlan {
 }
 
 // What writing answers: the refusal's number, 0 if there is none, and how many bytes are written.
-#[derive(Drop)]
+#[derive(Clone, Copy)]
 pub struct WriteAnswer {
     pub refusal: u32,
     pub length: usize,

@@ -12,14 +12,14 @@ ghost use Rattle.count_row.specs.Answers.{count_answer};
 use model::{Head, limits};
 
 // The count row: bounds for each number of claims from 0 to the longest plan's.
-#[derive(Drop)]
+#[derive(Clone, Copy)]
 pub struct CountRow {
     pub lower: [u32; limits::PLACES],
     pub upper: [u32; limits::PLACES],
 }
 
 // The answer of the count row call.
-#[derive(Drop)]
+#[derive(Clone, Copy)]
 pub struct CountAnswer {
     pub refusal: u32,
     pub row: CountRow,

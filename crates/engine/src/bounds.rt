@@ -15,7 +15,7 @@ use month_rule::halves;
 use ruin_rows::ruin_halves;
 
 // The rows from which the months go back: S where all claims are placed, or those before a month with this chance in which the fund is ruined.
-#[derive(Drop)]
+#[derive(Clone, Copy)]
 pub enum LastRows {
     Placed,
     Ruin(u32),

@@ -17,7 +17,7 @@ use questions::needs::{opening_allowed, shape_of, workspace_needed};
 use questions::refusals::{ask_refusal, ruin_refusal};
 
 // The answer to a question: the refusal's number, 0 if there is none, and the bounds in parts of 2^30.
-#[derive(Drop)]
+#[derive(Clone, Copy)]
 pub struct Answer {
     pub refusal: u32,
     pub lower: u32,

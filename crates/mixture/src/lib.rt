@@ -41,7 +41,7 @@ pub fn ask(mixture: Mixture, question: Question, row: &[u32], workspace: &mut [u
 }
 
 // The weighted sums of the plans' lower and of their upper bounds.
-#[derive(Drop)]
+#[derive(Clone, Copy)]
 struct Sums {
     lower: u64,
     upper: u64,

@@ -20,7 +20,7 @@ use plan_bits::reading::head_of;
 use rooms::blank_rows;
 
 // What reading answers: the refusal's number, 0 if there is none, the mixture, its row, and how many numbers of that are the plans'.
-#[derive(Drop)]
+#[derive(Clone, Copy)]
 pub struct ByteMixture {
     pub refusal: u32,
     pub mixture: Mixture,
@@ -29,7 +29,7 @@ pub struct ByteMixture {
 }
 
 // The plans as they are read: the refusal's number, their heads, and how many numbers of the lent row are theirs.
-#[derive(Drop)]
+#[derive(Clone, Copy)]
 struct BytePlans {
     refusal: u32,
     heads: [Head; limits::PLANS],
@@ -37,7 +37,7 @@ struct BytePlans {
 }
 
 // One plan as it is read: the refusal's number, its head, and how many bytes it has.
-#[derive(Drop)]
+#[derive(Clone, Copy)]
 struct BytePart {
     refusal: u32,
     head: Head,

@@ -19,7 +19,7 @@ use questions::needs::{is_outside, workspace_needed};
 
 // A mixture, document 02's mix: so many plans, with a head and a weight for each; heads and weights past the count are not looked at. The plans' rows
 // are lent beside it, end to end.
-#[derive(Drop)]
+#[derive(Clone, Copy)]
 pub struct Mixture {
     pub count: usize,
     pub heads: [Head; limits::PLANS],

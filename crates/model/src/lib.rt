@@ -10,14 +10,14 @@ pub const SCALE: u32 = 1 << 30;
 pub const WIDE_SCALE: u64 = SCALE as u64;
 
 // Which way a quotient is rounded: down for a lower bound, up for an upper one.
-#[derive(Drop)]
+#[derive(Clone, Copy)]
 pub enum Rounding {
     Down,
     Up,
 }
 
 // A plan's head: months n, opening reserve u, claim sizes m, and the income c of every month.
-#[derive(Drop)]
+#[derive(Clone, Copy)]
 pub struct Head {
     pub months: usize,
     pub opening: usize,
@@ -26,7 +26,7 @@ pub struct Head {
 }
 
 // One of the four questions; k is a number of claims and L a level.
-#[derive(Drop)]
+#[derive(Clone, Copy)]
 pub enum Question {
     Survive,
     Both(usize),
@@ -35,14 +35,14 @@ pub enum Question {
 }
 
 // An ask: the plan's head and one question.
-#[derive(Drop)]
+#[derive(Clone, Copy)]
 pub struct Ask {
     pub head: Head,
     pub question: Question,
 }
 
 // A lower and an upper bound in parts of S.
-#[derive(Drop)]
+#[derive(Clone, Copy)]
 pub struct Bounds {
     pub lower: u32,
     pub upper: u32,

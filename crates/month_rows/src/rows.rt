@@ -14,7 +14,7 @@ use rounding::month_value;
 
 // What a question on a plan asks of the rows: how many there are, the places of each, the income of a month, whether the rows are told apart by the
 // claims left, and the levels that are not forbidden, from `low` on and below `above`.
-#[derive(Drop)]
+#[derive(Clone, Copy)]
 pub struct Shape {
     pub rows: usize,
     pub width: usize,

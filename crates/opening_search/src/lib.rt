@@ -16,7 +16,7 @@ use plan::lengths::row_levels;
 use questions::refusals::bounds_refusal;
 
 // The least opening, with its bounds of survival in parts of 2^30, or the refusal's number.
-#[derive(Drop)]
+#[derive(Clone, Copy)]
 pub struct LeastAnswer {
     pub refusal: u32,
     pub opening: usize,

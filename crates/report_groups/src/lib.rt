@@ -17,7 +17,7 @@ use report_lines::answers;
 use report_lines::lines::{put_numbered, put_question};
 
 // The numbers of a question's lines: the first, and how many there are.
-#[derive(Drop)]
+#[derive(Clone, Copy)]
 pub struct LineRange {
     pub first: usize,
     pub count: usize,

@@ -18,7 +18,7 @@ use report_lines::lines::put_numbered;
 use text::put_line;
 
 // The lines of the first months: where they end, and the sums of their bounds.
-#[derive(Drop)]
+#[derive(Clone, Copy)]
 pub struct RuinLines {
     pub end: usize,
     pub lower: u64,

@@ -6,14 +6,14 @@ pub mod bytes;
 pub mod rules;
 
 // A claim chance for each month: the same in all, or a first one and what each month adds.
-#[derive(Drop)]
+#[derive(Clone, Copy)]
 pub enum ChanceRule {
     Level(f64),
     Ramp(f64, f64),
 }
 
 // A rule sheet. The claim sizes are geometric with the parameter alpha.
-#[derive(Drop)]
+#[derive(Clone, Copy)]
 pub struct RuleSheet {
     pub rule: ChanceRule,
     pub months: usize,

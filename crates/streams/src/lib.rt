@@ -10,7 +10,7 @@ ghost use Rattle.streams.specs.Reached.{Reached};
 
 // What was read: so many bytes at the start of the buffer, whether a read failed before the input ended, and what the system answered last, 0 where it
 // was asked nothing.
-#[derive(Drop)]
+#[derive(Clone, Copy)]
 pub struct Input {
     pub length: usize,
     pub failed: bool,
@@ -18,7 +18,7 @@ pub struct Input {
 }
 
 // What was written: so many bytes from the start of the text on, whether these are all, and what the system answered last, 0 where it was asked nothing.
-#[derive(Drop)]
+#[derive(Clone, Copy)]
 pub struct Output {
     pub length: usize,
     pub whole: bool,

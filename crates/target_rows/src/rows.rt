@@ -80,7 +80,7 @@ fn least_level(row: &[u32], top: usize, target: u32) -> usize
 }
 
 // The least opening and its lower bound; one above the largest where none reaches the target.
-#[derive(Drop)]
+#[derive(Clone, Copy)]
 pub struct Found {
     pub opening: usize,
     pub lower: u32,

@@ -16,7 +16,7 @@ pub const REPORT: usize = 1;
 
 pub const MODEL: usize = 2;
 
-#[derive(Drop)]
+#[derive(Clone, Copy)]
 pub struct Record {
     pub kind: usize,
     pub mixture: Mixture,

@@ -12,7 +12,7 @@ pub const LAST: u8 = 15;
 
 const END: u8 = 255;
 
-#[derive(Drop)]
+#[derive(Clone, Copy)]
 pub struct Record {
     pub kind: u8,
     pub head: Head,

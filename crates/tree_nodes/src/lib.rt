@@ -12,7 +12,7 @@ use plain_engine::steps::{claims_after, followed, level_allowed};
 use questions::needs::opening_allowed;
 
 // A node of a month: its level and, for both, the claims left to place.
-#[derive(Drop)]
+#[derive(Clone, Copy)]
 pub struct Node {
     pub left: usize,
     pub level: usize,
