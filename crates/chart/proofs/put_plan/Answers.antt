@@ -1,0 +1,45 @@
+-- `chart::put_plan` meets its contract: the call refuses nothing here, and its pairs give the plan's lines.
+use mathlib.Core.Path.{◌≡◌, sym, ap, ◌∙◌}
+use native.Mathlib.Nat.{mul-le-mul_right}
+use native.Mathlib.Omega.{arith}
+use lib.ListN.{length, take}
+use Rattle.model.specs.Refusal.{plan_refusal, Accepted, HeadAccepted}
+use Rattle.model.proofs.Facts.{facts, head_facts, accepted_head}
+use Rattle.survival.specs.Openings.{openings_refusal}
+use Rattle.survival.proofs.Theorems.{workspace_suffices, bounds_suffice, unrefused}
+use Rattle.report_lines.specs.Lines.{line_room}
+use Rattle.chart.proofs.Laws.{lines_are}
+use Rattle.chart.proofs.put_plan.Goals as goal
+use Rattle.chart.proofs.put_plan.Goals.{After-blank_bounds-bounds, After-row_length-used}
+
+pub row_length-used-requires : goal.row_length-used-requires
+row_length-used-requires c = accepted_head _ _ c.requires.accepted
+
+pub slice_bounds-all_openings-end : goal.slice_bounds-all_openings-end
+slice_bounds-all_openings-end c = rw c.row_length-used.ensures (sym (facts _ _ c.requires.accepted).row_is)
+
+-- the head is accepted, and so is the row that is lent
+of-head : (c : After-row_length-used) → HeadAccepted c.args.head
+of-head c = accepted_head _ _ c.requires.accepted
+
+of-plan : (c : After-row_length-used) → Accepted c.args.head (take c.row_length-used.result c.args.row.now)
+of-plan c = let a = c.args in ap (λ n. plan_refusal a.head (take n a.row.now)) c.row_length-used.ensures ∙ c.requires.accepted
+
+-- the memory that is lent suffices
+nothing-refused : (c : After-blank_bounds-bounds) → openings_refusal c.args.head (take c.row_length-used.result c.args.row.now) (length c.blank_survival_workspace-workspace.result) (length c.blank_bounds-bounds.result) ≡ 0
+nothing-refused c =
+    let head = c.args.head in
+    unrefused head (take c.row_length-used.result c.args.row.now) (length c.blank_survival_workspace-workspace.result) (length c.blank_bounds-bounds.result)
+    (record {
+      accepted = (let of_plan : Accepted c.args.head (take c.row_length-used.result c.args.row.now) = let a = c.args in ap (λ n. plan_refusal a.head (take n a.row.now)) c.row_length-used.ensures ∙ c.requires.accepted in of_plan);
+      enough = omega (arith, workspace_suffices head (let of_head : HeadAccepted c.args.head = accepted_head _ _ c.requires.accepted in of_head), c.blank_survival_workspace-workspace.ensures.sized);
+      wide = omega (arith, bounds_suffice head (let of_head : HeadAccepted c.args.head = accepted_head _ _ c.requires.accepted in of_head), c.blank_bounds-bounds.ensures.sized);
+    })
+
+pub put_lines-requires : goal.put_lines-requires
+put_lines-requires c = record { opening_in_bounds = omega (arith, bounds_suffice c.args.head (of-head (goal.at.put_lines-requires c).After-row_length-used), c.blank_bounds-bounds.ensures.sized, c.all_openings.auto); line_room_in_bounds = omega (arith, c.requires.text_room_in_bounds, mul-le-mul_right line_room (head_facts c.args.head (of-head (goal.at.put_lines-requires c).After-row_length-used)).opening_fits) }
+
+pub returns : goal.returns
+returns c =
+    rw (← c.row_length-used.ensures, ← lines_are c.args.head (take c.row_length-used.result c.args.row.now) c.blank_survival_workspace-workspace.result c.blank_bounds-bounds.result _ c.all_openings.ensures.filled (nothing-refused (goal.at.returns c).After-blank_bounds-bounds))
+    c.put_lines.ensures

@@ -1,0 +1,85 @@
+-- `least` meets its contract: refused, or searched in the parts that it lends (`Theorems`).
+use Prim.Native.Nat.{◌*◌, ◌≤◌}
+use mathlib.Core.Path.{◌≡◌, sym, ap, ◌∙◌}
+use native.Mathlib.Omega.{arith}
+use lib.ListN.{length, length-take}
+use lib.Seq.{length-take-le}
+use Rattle.model.specs.Levels.{row_levels}
+use Rattle.model.specs.Refusal.{survival_workspace}
+use Rattle.model.proofs.Facts.{Facts, facts, accepted_head}
+use Rattle.questions.proofs.RefusalLaws.{Asked}
+use Rattle.engine.proofs.AnswerLaws.{terms_lent}
+use Rattle.opening_search.specs.Refusal.{target_outside, target_refusal}
+use Rattle.model.proofs.MemoryLaws.{untouched, cleared_is}
+use Rattle.survival.proofs.Theorems.{needed_is}
+use Rattle.opening_search.proofs.Theorems.{known, refused_is, search_is, lent_is, target_inside, clauses}
+use Rattle.opening_search.proofs.least.Goals as goal
+use Rattle.opening_search.proofs.least.Goals.{After-row_levels-needed, Else-refusal-ne0}
+
+pub returns-then-refusal-ne0 : goal.returns-then-refusal-ne0
+returns-then-refusal-ne0 c =
+    let a = c.args in
+    let n = c.check-refusal in let both = clauses a.head a.row.now a.target a.workspace.now a.workspace.now c.refused.result
+    (refused_is a.head a.row.now a.target (length a.workspace.now) n.result c.refused.result c.refused.ensures n.ensures c.if-refusal-ne0.true)
+    (untouched n.result _ (survival_workspace a.head) a.workspace.now n.ensures c.if-refusal-ne0.true) in record { answered = both.0; cleared = both.1.0; least = both.1.1.0; none = both.1.1.1.0; encloses = both.1.1.1.1 }
+
+-- what is known where no check fits
+none_fits : (c : Else-refusal-ne0) → let a = c.args in target_refusal a.head a.row.now a.target (length a.workspace.now) ≡ 0
+none_fits c = sym c.check-refusal.ensures ∙ c.if-refusal-ne0.false
+
+asked : (c : Else-refusal-ne0) → let a = c.args in Asked a.head a.row.now (target_outside a.target) (survival_workspace a.head) (length a.workspace.now)
+asked c = let a = c.args in known a.head a.row.now a.target (length a.workspace.now) (let none_fits : let a = c.args in target_refusal a.head a.row.now a.target (length a.workspace.now) ≡ 0 = sym c.check-refusal.ensures ∙ c.if-refusal-ne0.false in none_fits)
+
+fits : (c : Else-refusal-ne0) → let a = c.args in Facts a.head a.row.now
+fits c = let a = c.args in facts a.head a.row.now (let asked : let a = c.args in Asked a.head a.row.now (target_outside a.target) (survival_workspace a.head) (length a.workspace.now) = let a = c.args in known a.head a.row.now a.target (length a.workspace.now) (let none_fits : let a = c.args in target_refusal a.head a.row.now a.target (length a.workspace.now) ≡ 0 = sym c.check-refusal.ensures ∙ c.if-refusal-ne0.false in none_fits) in asked).accepted
+
+pub overflow_add-end : goal.overflow_add-end
+overflow_add-end c = omega (arith, (fits (goal.at.overflow_add-end c).Else-refusal-ne0).row_is)
+
+pub row_levels-needed-requires : goal.row_levels-needed-requires
+row_levels-needed-requires c = accepted_head _ _ (asked (goal.at.row_levels-needed-requires c).Else-refusal-ne0).accepted
+
+-- the workspace has room for what is needed
+enough : (c : After-row_levels-needed) → 2 * c.row_levels-needed.result ≤ length c.args.workspace.now
+enough c =
+    omega (arith, (let asked : let a = c.args in Asked a.head a.row.now (target_outside a.target) (survival_workspace a.head) (length a.workspace.now) = let a = c.args in known a.head a.row.now a.target (length a.workspace.now) (let none_fits : let a = c.args in target_refusal a.head a.row.now a.target (length a.workspace.now) ≡ 0 = sym c.check-refusal.ensures ∙ c.if-refusal-ne0.false in none_fits) in asked).enough, needed_is c.args.head c.row_levels-needed.result c.row_levels-needed.ensures)
+
+pub overflow_mul-needed : goal.overflow_mul-needed
+overflow_mul-needed c = omega (arith, enough (goal.at.overflow_mul-needed c).After-row_levels-needed)
+
+pub slice_bounds-search-end : goal.slice_bounds-search-end
+slice_bounds-search-end c = enough (goal.at.slice_bounds-search-end c).After-row_levels-needed
+
+pub slice_bounds-search-end-2 : goal.slice_bounds-search-end-2
+slice_bounds-search-end-2 c = sym (length-take-le _ _ (enough (goal.at.slice_bounds-search-end-2 c).After-row_levels-needed))
+
+pub slice_bounds-search-end-3 : goal.slice_bounds-search-end-3
+slice_bounds-search-end-3 c = simp length-take (omega (arith, (fits (goal.at.slice_bounds-search-end-3 c).Else-refusal-ne0).row_is))
+
+pub offset_bounds-row-months : goal.offset_bounds-row-months
+offset_bounds-row-months c = omega (arith, (fits (goal.at.offset_bounds-row-months c).Else-refusal-ne0).head.months_fit)
+
+pub slice_bounds-search-end-4 : goal.slice_bounds-search-end-4
+slice_bounds-search-end-4 c = omega (arith, (fits (goal.at.slice_bounds-search-end-4 c).Else-refusal-ne0).row_is)
+
+pub search-requires : goal.search-requires
+search-requires c =
+    let at-levels = measured c in
+    let else1 = unrefused at-levels in
+    let a = (start else1.before).args in
+    let months = length-take-le a.head.months a.row.now (omega (arith, (fits else1).row_is)) in record { income_nonzero = (
+        (fits else1).head.income_some,
+        length-take-le (2 * at-levels.row_levels.result) a.workspace.now (enough at-levels)
+            ∙ ap (λ n. 2 * n) (at-levels.row_levels.ensures ∙ ap (λ n. row_levels a.head.income a.head.opening n) (sym months)),
+      ); plan_terms = terms_lent a.head a.row.now (fits else1) a.head.months; target_nonzero = target_inside a.target (asked else1).inside }
+
+pub returns : goal.returns
+returns c =
+    let at-levels = measured c in
+    let else1 = unrefused at-levels in
+    let a = (start else1.before).args in
+    let h = a.head in
+    let row = a.row.now in let both = clauses h row a.target a.workspace.now _ c.search.result
+    (lent_is h row a.target c.search.result c.search.ensures.answered ∙ search_is h row a.target (length a.workspace.now) (none_fits else1))
+    (cleared_is _ (2 * at-levels.row_levels.result) (survival_workspace h) a.workspace.now c.search.new.workspace (none_fits else1)
+    (needed_is h at-levels.row_levels.result at-levels.row_levels.ensures) (enough at-levels) c.search.ensures.cleared) in record { answered = both.0; cleared = both.1.0; least = both.1.1.0; none = both.1.1.1.0; encloses = both.1.1.1.1 }

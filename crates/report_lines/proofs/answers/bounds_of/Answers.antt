@@ -1,0 +1,10 @@
+-- `answers::bounds_of` meets its contract: on an accepted plan, within the limits and with enough workspace, the engine does not refuse. Assumes nothing.
+use mathlib.Core.Path.{◌∙◌, ap}
+use Rattle.report_lines.proofs.AskingLaws.{asked, asked_leaves}
+use Rattle.report_lines.proofs.answers.bounds_of.Goals as goal
+
+pub returns : goal.returns
+returns c =
+    let ask = c.ask-answer.ensures in
+    let pre = c.requires in
+    let answer = ask.0 ∙ asked pre.0 _ pre.1 in record { answered = ap (λ a. record { lower = a.lower; upper = a.upper }) answer; cleared = ask.1.0 ∙ asked_leaves pre.0 _ pre.1 }

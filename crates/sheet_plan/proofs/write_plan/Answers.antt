@@ -1,0 +1,91 @@
+-- `sheet_plan::write_plan` meets its contract: the plan that was read is accepted, so its bytes are written where there is room for them.
+use Prim.Native.Nat.{◌≤◌}
+use mathlib.Core.Path.{◌≡◌, refl, sym, ap, ap₂, ◌∙◌}
+use mathlib.Core.List.{◌++◌}
+use native.Mathlib.Omega.{arith}
+use lib.ListN.{length, take, drop, length-append}
+use lib.Seq.{length-take-le, take_at}
+use Rattle.model.specs.Plan.{row_length}
+use Rattle.model.specs.Format.{byte_length, bytes_of}
+use Rattle.model.specs.Refusal.{first}
+use Rattle.codec.specs.Answers.{length_answer, write_answer, bytes_after}
+use Rattle.model.specs.Memory.{filled_after}
+use Rattle.codec.proofs.Answered.{written_as, head_answered, head_number, length_refused}
+use Rattle.model.proofs.MemoryLaws.{filled, kept}
+use Rattle.sheet_values.specs.Sheet.{sheet_of}
+use Rattle.sheet_checks.specs.Refusal.{sheet_checks, sheet_refusal}
+use Rattle.sheet_plan.specs.Answers.{plan_head, plan_row, plan_answer}
+use Rattle.sheet_values.proofs.RuleLaws.{row_is}
+use Rattle.sheet_checks.proofs.CheckLaws.{sheet_facts, refused_early}
+use Rattle.sheet_plan.proofs.Theorems.{read_number, write_number, plan_fits}
+use Rattle.sheet_plan.proofs.write_plan.Goals as goal
+use Rattle.sheet_plan.proofs.write_plan.Goals.{After-read-answer, After-row_length-count, Else-refusal-ne0}
+
+-- the number that reading gave, the row being long enough for every plan
+number_is : (c : After-read-answer) → c.read-answer.result.refusal ≡ first (sheet_checks c.args.bytes.now)
+number_is c =
+    ap (λ a. a.refusal) c.read-answer.ensures.answer
+    ∙ head_number _ _
+    ∙ ap (sheet_refusal c.args.bytes.now (row_length (plan_head c.args.bytes.now))) (sym c.blank_row-row.ensures.sized)
+    ∙ read_number c.args.bytes.now
+
+pub returns-then-refusal-ne0 : goal.returns-then-refusal-ne0
+returns-then-refusal-ne0 c =
+    let needed = byte_length (plan_head c.args.bytes.now) in
+    let some : first (sheet_checks c.args.bytes.now) ≡ 0 → ⊥ = λ z. c.if-refusal-ne0.true (number_is (goal.at.returns-then-refusal-ne0 c).After-read-answer ∙ z) in
+    let is = refused_early c.args.bytes.now needed (length c.args.plan.now) some in
+    let some-here : sheet_refusal c.args.bytes.now needed (length c.args.plan.now) ≡ 0 → ⊥ = λ z. some (sym is ∙ z) in
+    let answered : written_as c.read-answer.result.refusal 0 ≡ plan_answer c.args.bytes.now (length c.args.plan.now) =
+    ap (λ n. written_as n 0) (number_is (goal.at.returns-then-refusal-ne0 c).After-read-answer ∙ sym is) ∙ sym (length_refused _ _ some-here) in record { answer = answered; memory = sym (kept _ _ _ _ some-here); within = (omega arith, refl) }
+
+none : (c : Else-refusal-ne0) → first (sheet_checks c.args.bytes.now) ≡ 0
+none c = sym (let number_is : c.read-answer.result.refusal ≡ first (sheet_checks c.args.bytes.now) = ap (λ a. a.refusal) c.read-answer.ensures.answer
+    ∙ head_number _ _
+    ∙ ap (sheet_refusal c.args.bytes.now (row_length (plan_head c.args.bytes.now))) (sym c.blank_row-row.ensures.sized)
+    ∙ read_number c.args.bytes.now in number_is) ∙ c.if-refusal-ne0.false
+
+-- of the number that reading itself worked out
+none_read : (c : Else-refusal-ne0) → sheet_refusal c.args.bytes.now (row_length (plan_head c.args.bytes.now)) (length c.blank_row-row.result) ≡ 0
+none_read c =
+    sym (ap (λ a. a.refusal) c.read-answer.ensures.answer ∙ head_number _ _) ∙ c.if-refusal-ne0.false
+
+head_is : (c : Else-refusal-ne0) → c.read-answer.result.head ≡ plan_head c.args.bytes.now
+head_is c = ap (λ a. a.head) (c.read-answer.ensures.answer ∙ head_answered _ _ (let none_read : sheet_refusal c.args.bytes.now (row_length (plan_head c.args.bytes.now)) (length c.blank_row-row.result) ≡ 0 = sym (ap (λ a. a.refusal) c.read-answer.ensures.answer ∙ head_number _ _) ∙ c.if-refusal-ne0.false in none_read))
+
+pub row_length-count-requires : goal.row_length-count-requires
+row_length-count-requires c = rw (head_is (goal.at.row_length-count-requires c).Else-refusal-ne0) (sheet_facts _ (none (goal.at.row_length-count-requires c).Else-refusal-ne0)).head_ok
+
+count_is : (c : After-row_length-count) → c.row_length-count.result ≡ row_length (plan_head c.args.bytes.now)
+count_is c = c.row_length-count.ensures ∙ ap row_length (let head_is : c.read-answer.result.head ≡ plan_head c.args.bytes.now = ap (λ a. a.head) (c.read-answer.ensures.answer ∙ head_answered _ _ (let none_read : sheet_refusal c.args.bytes.now (row_length (plan_head c.args.bytes.now)) (length c.blank_row-row.result) ≡ 0 = sym (ap (λ a. a.refusal) c.read-answer.ensures.answer ∙ head_number _ _) ∙ c.if-refusal-ne0.false in none_read)) in head_is)
+
+row_read : (c : After-row_length-count) → c.read-answer.new.row ≡ plan_row c.args.bytes.now ++ drop (row_length (plan_head c.args.bytes.now)) c.blank_row-row.result
+row_read c = c.read-answer.ensures.memory ∙ filled _ _ _ _ (let none_read : sheet_refusal c.args.bytes.now (row_length (plan_head c.args.bytes.now)) (length c.blank_row-row.result) ≡ 0 = sym (ap (λ a. a.refusal) c.read-answer.ensures.answer ∙ head_number _ _) ∙ c.if-refusal-ne0.false in none_read)
+
+plan-length : (c : After-row_length-count) → length (plan_row c.args.bytes.now) ≡ c.row_length-count.result
+plan-length c = row_is (sheet_of c.args.bytes.now) ∙ sym (let count_is : c.row_length-count.result ≡ row_length (plan_head c.args.bytes.now) = c.row_length-count.ensures ∙ ap row_length (let head_is : c.read-answer.result.head ≡ plan_head c.args.bytes.now = ap (λ a. a.head) (c.read-answer.ensures.answer ∙ head_answered _ _ (let none_read : sheet_refusal c.args.bytes.now (row_length (plan_head c.args.bytes.now)) (length c.blank_row-row.result) ≡ 0 = sym (ap (λ a. a.refusal) c.read-answer.ensures.answer ∙ head_number _ _) ∙ c.if-refusal-ne0.false in none_read)) in head_is) in count_is)
+
+pub slice_bounds-row-end : goal.slice_bounds-row-end
+slice_bounds-row-end c = omega (arith, plan-length (goal.at.slice_bounds-row-end c).After-row_length-count, simp length-append at (ap length (row_read (goal.at.slice_bounds-row-end c).After-row_length-count)))
+
+pub slice_bounds-write-end : goal.slice_bounds-write-end
+slice_bounds-write-end c = sym (length-take-le _ _ (array-share-prefix-row c))
+
+-- what is lent is the plan's row
+lent_is : (c : After-row_length-count) → take c.row_length-count.result c.read-answer.new.row ≡ plan_row c.args.bytes.now
+lent_is c = ap (take c.row_length-count.result) (let row_read : c.read-answer.new.row ≡ plan_row c.args.bytes.now ++ drop (row_length (plan_head c.args.bytes.now)) c.blank_row-row.result = c.read-answer.ensures.memory ∙ filled _ _ _ _ (let none_read : sheet_refusal c.args.bytes.now (row_length (plan_head c.args.bytes.now)) (length c.blank_row-row.result) ≡ 0 = sym (ap (λ a. a.refusal) c.read-answer.ensures.answer ∙ head_number _ _) ∙ c.if-refusal-ne0.false in none_read) in row_read) ∙ take_at (plan_row c.args.bytes.now) _ _ (let plan_length : length (plan_row c.args.bytes.now) ≡ c.row_length-count.result = row_is (sheet_of c.args.bytes.now) ∙ sym (let count_is : c.row_length-count.result ≡ row_length (plan_head c.args.bytes.now) = c.row_length-count.ensures ∙ ap row_length (let head_is : c.read-answer.result.head ≡ plan_head c.args.bytes.now = ap (λ a. a.head) (c.read-answer.ensures.answer ∙ head_answered _ _ (let none_read : sheet_refusal c.args.bytes.now (row_length (plan_head c.args.bytes.now)) (length c.blank_row-row.result) ≡ 0 = sym (ap (λ a. a.refusal) c.read-answer.ensures.answer ∙ head_number _ _) ∙ c.if-refusal-ne0.false in none_read)) in head_is) in count_is) in plan_length)
+
+pub returns : goal.returns
+returns c =
+    let bytes = c.args.bytes.now in
+    let lent = c.args.plan.now in
+    let number = write_number bytes (none (goal.at.returns c).Else-refusal-ne0) (length lent) in
+    let answer =
+    c.write.ensures.answer
+    ∙ ap₂ (λ h row. write_answer h row (length lent)) (head_is (goal.at.returns c).Else-refusal-ne0) (lent_is (goal.at.returns c).After-row_length-count)
+    ∙ ap (λ n. length_answer n (byte_length (plan_head bytes))) number in
+    let memory =
+    c.write.ensures.memory
+    ∙ ap₂ (λ h row. bytes_after h row lent) (head_is (goal.at.returns c).Else-refusal-ne0) (lent_is (goal.at.returns c).After-row_length-count)
+    ∙ ap (λ n. filled_after n (byte_length (plan_head bytes)) (bytes_of (plan_head bytes) (plan_row bytes)) lent) number in
+    let fits : c.write.result.length ≤ length c.write.new.bytes =
+    omega (arith, ap (λ a. a.length) answer, plan_fits bytes (length lent), c.write.auto.bytes) in record { answer = answer; memory = memory; within = (fits, sym (length-take-le _ _ fits)) }

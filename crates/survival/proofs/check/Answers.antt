@@ -1,0 +1,54 @@
+-- `check` meets its contract: the checks of the plan, then those of the two lengths.
+use Prim.Native.Nat.{◌*◌}
+use mathlib.Core.Path.{◌≡◌, sym, ◌∙◌}
+use native.Mathlib.Omega.{arith}
+use Rattle.model.specs.Refusal.{Accepted, survival_workspace}
+use Rattle.model.proofs.Facts.{HeadFacts, head_facts, accepted_head}
+use Rattle.survival.proofs.Theorems.{needed_is, plan_refused, workspace_short, bounds_short, unrefused}
+use Rattle.survival.proofs.check.Goals as goal
+use Rattle.survival.proofs.check.Goals.{After-row_levels, Else-of_plan-ne0}
+
+pub returns-then-of_plan-ne0 : goal.returns-then-of_plan-ne0
+returns-then-of_plan-ne0 c =
+    let n = c.plan_refusal-of_plan in
+    let a = c.args in
+    plan_refused a.head a.row.now a.room a.places n.result n.ensures c.if-of_plan-ne0.true
+
+accepted : (c : Else-of_plan-ne0) → let a = c.args in Accepted a.head a.row.now
+accepted c = sym c.plan_refusal-of_plan.ensures ∙ c.if-of_plan-ne0.false
+
+fits : (c : Else-of_plan-ne0) → HeadFacts c.args.head
+fits c = let a = c.args in head_facts a.head (accepted_head a.head a.row.now (let accepted : let a = c.args in Accepted a.head a.row.now = sym c.plan_refusal-of_plan.ensures ∙ c.if-of_plan-ne0.false in accepted))
+
+pub row_levels-requires : goal.row_levels-requires
+row_levels-requires c = accepted_head _ _ (accepted (goal.at.row_levels-requires c).Else-of_plan-ne0)
+
+-- what the workspace is held against
+needed : (c : After-row_levels) → 2 * c.row_levels.result ≡ survival_workspace c.args.head
+needed c = needed_is c.args.head c.row_levels.result c.row_levels.ensures
+
+pub overflow_mul-row_levels : goal.overflow_mul-row_levels
+overflow_mul-row_levels c = omega (arith, c.row_levels.ensures, (fits (goal.at.overflow_mul-row_levels c).Else-of_plan-ne0).span_fits)
+
+pub returns-then-room-row_levels : goal.returns-then-room-row_levels
+returns-then-room-row_levels c =
+    let a = c.args in
+    workspace_short a.head a.row.now a.room a.places (accepted (goal.at.returns-then-room-row_levels c).Else-of_plan-ne0) (omega (arith, needed (goal.at.returns-then-room-row_levels c).After-row_levels, c.if-room-row_levels.true))
+
+pub overflow_add-opening : goal.overflow_add-opening
+overflow_add-opening c = omega (arith, (fits (goal.at.overflow_add-opening c).Else-of_plan-ne0).opening_fits)
+
+pub overflow_mul-opening : goal.overflow_mul-opening
+overflow_mul-opening c = omega (arith, (fits (goal.at.overflow_mul-opening c).Else-of_plan-ne0).opening_fits)
+
+pub returns-then-places-opening : goal.returns-then-places-opening
+returns-then-places-opening c =
+    let a = c.args in
+    bounds_short a.head a.row.now a.room a.places (accepted (goal.at.returns-then-places-opening c).Else-of_plan-ne0) (omega (arith, needed (goal.at.returns-then-places-opening c).After-row_levels, c.if-room-row_levels.false)) c.if-places-opening.true
+
+pub returns-else-places-opening : goal.returns-else-places-opening
+returns-else-places-opening c =
+    let a = c.args in
+    sym
+    (unrefused a.head a.row.now a.room a.places
+    (record { accepted = accepted (goal.at.returns-else-places-opening c).Else-of_plan-ne0; enough = omega (arith, needed (goal.at.returns-else-places-opening c).After-row_levels, c.if-room-row_levels.false); wide = c.if-places-opening.false }))

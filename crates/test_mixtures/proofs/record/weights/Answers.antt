@@ -1,0 +1,13 @@
+use mathlib.Core.Path.{refl}
+use Prim.Native.Nat.{◌-◌}
+use Rattle.test_mixtures.proofs.StoreLaws.{storing_none, storing_more, storing_done}
+use Rattle.test_mixtures.proofs.record.weights.Goals as goal
+
+pub loop-i-init : goal.loop-i-init
+loop-i-init c = storing_none _ _ _ refl
+
+pub loop-i-preserved : goal.loop-i-preserved
+loop-i-preserved c = storing_more _ _ _ _ c.loop-i.invariant _ c.loop-i-test.true c.number.ensures
+
+pub returns : goal.returns
+returns c = storing_done _ _ _ _ c.loop-i.invariant c.loop-i-test.false
