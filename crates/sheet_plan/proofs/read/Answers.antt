@@ -17,7 +17,7 @@ use Rattle.sheet_checks.specs.Refusal.{sheet_checks, sheet_refusal}
 use Rattle.sheet_plan.specs.Answers.{plan_head, sheet_answer, sheet_row_after}
 use Rattle.sheet_checks.proofs.CheckLaws.{SheetFacts, sheet_facts, refused_early, refused_short, accepted}
 use Rattle.sheet_plan.proofs.read.Goals as goal
-use Rattle.sheet_plan.proofs.read.Goals.{After-head_of-head, After-put_row-arg-1, After-row_length-count, Else-refused-ne0}
+use Rattle.sheet_plan.proofs.read.Goals.{After-head_of-head, After-row_length-count, Else-refused-ne0}
 
 -- what a refusal with a number answers and leaves
 refused :
@@ -72,18 +72,15 @@ returns-then-row-count c =
     let both = refused bytes row 11 is (λ z. omega (arith, z)) in
     record { answer = answer _ 11 c.no_plan-then-row-count.ensures ∙ both.0; memory = both.1 }
 
-lent_length : (c : After-put_row-arg-1) → length (take c.row_length-count.result c.args.row.now) ≡ c.row_length-count.result
-lent_length c = length-take-le _ _ c.if-row-count.false
-
 pub slice_bounds-put_row-end-2 : goal.slice_bounds-put_row-end-2
-slice_bounds-put_row-end-2 c = sym (lent_length (goal.at.slice_bounds-put_row-end-2 c).After-put_row-arg-1)
+slice_bounds-put_row-end-2 c = sym (length-take-le _ _ c.if-row-count.false)
 
 pub put_row-requires : goal.put_row-requires
 put_row-requires c =
     let at = goal.at.put_row-requires c in
     record {
       makes_plan = rw c.sheet_of-sheet.ensures (known at.Else-refused-ne0).makes_plan;
-      row_len = lent_length at.After-put_row-arg-1 ∙ c.row_length-count.ensures ∙ ap row_length c.head_of-head.ensures;
+      row_len = length-take-le _ _ c.if-row-count.false ∙ c.row_length-count.ensures ∙ ap row_length c.head_of-head.ensures;
     }
 
 pub returns : goal.returns
