@@ -1,7 +1,6 @@
 -- `sheet_checks::all_finite` meets its contract.
 use mathlib.Core.Path.{◌≡◌, sym, ◌∙◌}
 use mathlib.Core.Bool.{Bool, true, false, ◌&&◌}
-use borrow.Author.Tests.{not-true, not-false}
 use lib.Ieee.Scale.{finite}
 use Rattle.sheet_checks.proofs.all_finite.Goals as goal
 use Rattle.sheet_checks.proofs.all_finite.Goals.{After-is_finite-2}

@@ -1,6 +1,5 @@
 -- `sheet_checks::refusal` meets its contract: the lists of checks, one after the other.
 use mathlib.Core.Path.{◌≡◌, sym, ap, ◌∙◌}
-use borrow.Author.Rules.{rules}
 use lib.ListN.{length}
 use Rattle.model.specs.Refusal.{first, head_checks, HeadAccepted}
 use Rattle.sheet_values.specs.Sheet.{sheet_length, sheet_of, sheet_head}
