@@ -25,14 +25,14 @@ finite-is c =
     sym (c.all_finite.ensures ∙ (λ i. finite (first i) && finite (step i) && finite (alpha i)))
 
 pub returns-then-not-all_finite : goal.returns-then-not-all_finite
-returns-then-not-all_finite c = sym (rules_first _ ∙ rw (finite-is (goal.at.returns-then-not-all_finite c).After-all_finite ∙ not-true _ c.if-not-all_finite.true))
+returns-then-not-all_finite c = sym (rules_first _ ∙ rw (finite-is (goal.at.returns-then-not-all_finite c).After-all_finite ∙ c.if-not-all_finite.true))
 
 -- the doubles are finite, and the other tests decide
 finite-passed : (c : Else-not-all_finite) → let b = c.args.bytes.now in first (rule_checks b) ≡ cond (alpha_test b) 13 (cond (step_test b) 13 (cond (chance_test b) 13 0))
 finite-passed c = rules_first _ ∙ rw ((let finite_is : finite_test c.args.bytes.now ≡ c.all_finite.result = let first = c.double-first.ensures in
     let step = c.double-step.ensures in
     let alpha = c.double-alpha.ensures in
-    sym (c.all_finite.ensures ∙ (λ i. finite (first i) && finite (step i) && finite (alpha i))) in finite_is) ∙ not-false _ c.if-not-all_finite.false)
+    sym (c.all_finite.ensures ∙ (λ i. finite (first i) && finite (step i) && finite (alpha i))) in finite_is) ∙ c.if-not-all_finite.false)
 
 alpha-is : (c : After-alpha_outside) → alpha_test c.args.bytes.now ≡ c.alpha_outside.result
 alpha-is c =
@@ -46,7 +46,7 @@ alpha-passed : (c : Else-alpha_outside) → let b = c.args.bytes.now in first (r
 alpha-passed c = (let finite_passed : let b = c.args.bytes.now in first (rule_checks b) ≡ cond (alpha_test b) 13 (cond (step_test b) 13 (cond (chance_test b) 13 0)) = rules_first _ ∙ rw ((let finite_is : finite_test c.args.bytes.now ≡ c.all_finite.result = let first = c.double-first.ensures in
     let step = c.double-step.ensures in
     let alpha = c.double-alpha.ensures in
-    sym (c.all_finite.ensures ∙ (λ i. finite (first i) && finite (step i) && finite (alpha i))) in finite_is) ∙ not-false _ c.if-not-all_finite.false) in finite_passed) ∙ rw ((let alpha_is : alpha_test c.args.bytes.now ≡ c.alpha_outside.result = let alpha = c.double-alpha.ensures in
+    sym (c.all_finite.ensures ∙ (λ i. finite (first i) && finite (step i) && finite (alpha i))) in finite_is) ∙ c.if-not-all_finite.false) in finite_passed) ∙ rw ((let alpha_is : alpha_test c.args.bytes.now ≡ c.alpha_outside.result = let alpha = c.double-alpha.ensures in
     sym (c.alpha_outside.ensures ∙ (λ i. lt (alpha i) nought || not (lt (alpha i) one))) in alpha_is) ∙ c.if-alpha_outside.false)
 
 step_is : (c : After-level_steps) → step_test c.args.bytes.now ≡ c.level_steps.result
@@ -69,7 +69,7 @@ unfolding number_at
 step-passed c = (let alpha_passed : let b = c.args.bytes.now in first (rule_checks b) ≡ cond (step_test b) 13 (cond (chance_test b) 13 0) = (let finite_passed : let b = c.args.bytes.now in first (rule_checks b) ≡ cond (alpha_test b) 13 (cond (step_test b) 13 (cond (chance_test b) 13 0)) = rules_first _ ∙ rw ((let finite_is : finite_test c.args.bytes.now ≡ c.all_finite.result = let first = c.double-first.ensures in
     let step = c.double-step.ensures in
     let alpha = c.double-alpha.ensures in
-    sym (c.all_finite.ensures ∙ (λ i. finite (first i) && finite (step i) && finite (alpha i))) in finite_is) ∙ not-false _ c.if-not-all_finite.false) in finite_passed) ∙ rw ((let alpha_is : alpha_test c.args.bytes.now ≡ c.alpha_outside.result = let alpha = c.double-alpha.ensures in
+    sym (c.all_finite.ensures ∙ (λ i. finite (first i) && finite (step i) && finite (alpha i))) in finite_is) ∙ c.if-not-all_finite.false) in finite_passed) ∙ rw ((let alpha_is : alpha_test c.args.bytes.now ≡ c.alpha_outside.result = let alpha = c.double-alpha.ensures in
     sym (c.alpha_outside.ensures ∙ (λ i. lt (alpha i) nought || not (lt (alpha i) one))) in alpha_is) ∙ c.if-alpha_outside.false) in alpha_passed) ∙ rw ((let step_is : step_test c.args.bytes.now ≡ c.level_steps.result = let kind = c.big_endian-kind.ensures.number in
     let step = c.double-step.ensures in
     sym (c.level_steps.ensures ∙ (λ i. eqb (kind i) 1 && ne (step i) nought)) in step_is) ∙ c.if-level_steps.false)

@@ -28,7 +28,9 @@ pub slice_bounds-put_chances-end-2 : goal.slice_bounds-put_chances-end-2
 slice_bounds-put_chances-end-2 c = sym (lent_length (goal.at.slice_bounds-put_chances-end-2 c).After-put_chances-arg-1)
 
 pub put_chances-requires : goal.put_chances-requires
-put_chances-requires c = rw (lent_length (goal.at.put_chances-requires c).After-put_chances-arg-1) (c.requires.makes_plan.months_fit, c.requires.makes_plan.chances_within)
+put_chances-requires c =
+    let plan = c.requires.makes_plan in
+    rw (lent_length (goal.at.put_chances-requires c).After-put_chances-arg-1) (record { row_len_bound = plan.months_fit; row_value = plan.chances_within })
 
 -- the chances are stored
 stored : (c : After-slice_known-2-1) → c.put_chances.new.row ≡ chances c.args.sheet.rule c.args.sheet.months
