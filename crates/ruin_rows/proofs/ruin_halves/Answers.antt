@@ -25,8 +25,8 @@ second-zeros : (c : After-fill) → drop c.args.half c.fill.new.part ≡ replica
 second-zeros c = zeros_second c.fill.new.part _ c.args.half c.fill.ensures c.requires.halves_len.0
 
 -- what a row needs of a half that is all 0
-needed : (c : Start) (part : List ℕ) → part ≡ replicate s.args.half 0 → (s.args.top < length part) × Parts part × (s.args.top + s.args.income < 2 ^ 64)
-needed c part e = rw e (rw length-replicate s.requires.0.1, parts_replicate s.args.half 0 zero-le, s.requires.0.2)
+needed : (c : Start) (part : List ℕ) → part ≡ replicate c.args.half 0 → (c.args.top < length part) × Parts part × (c.args.top + c.args.income < 2 ^ 64)
+needed c part e = rw e (rw length-replicate c.requires.halves_len.1, parts_replicate c.args.half 0 zero-le, c.requires.halves_len.2)
 
 pub ruin_row-requires : goal.ruin_row-requires
 ruin_row-requires c =

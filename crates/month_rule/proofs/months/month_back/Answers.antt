@@ -10,8 +10,11 @@ pub forbid_rows-requires : goal.forbid_rows-requires
 forbid_rows-requires c = (c.requires.rows_in, c.requires.top_in.inside)
 
 pub all_rows_back-requires : goal.all_rows_back-requires
-all_rows_back-requires c =
-    (rows_in_again c.args.shape c.args.rows.now c.forbid_rows.new.rows c.requires.rows_in c.forbid_rows.auto.rows c.forbid_rows.ensures.parts, c.requires.1)
+all_rows_back-requires c = record {
+  rows_in = rows_in_again c.args.shape c.args.rows.now c.forbid_rows.new.rows c.requires.rows_in c.forbid_rows.auto.rows c.forbid_rows.ensures.parts;
+  top_in = c.requires.top_in;
+  month_terms = c.requires.month_terms;
+}
 
 pub returns : goal.returns
 unfolding rule_by
