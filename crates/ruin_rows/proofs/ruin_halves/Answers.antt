@@ -46,5 +46,9 @@ returns c =
     let last = c.ruin_row-2 in
     let first = c.ruin_row in
     let xs = c.fill.new.part in
-    let half = c.args.half in record { lower = rw (first_half xs first.new.row last.new.row half (whole (goal.at.returns c).After-fill) first.auto.row) (rw (first-zeros (goal.at.returns c).After-fill) at first.ensures.rewritten); upper = rw (second_half xs first.new.row last.new.row half (whole (goal.at.returns c).After-fill) first.auto.row)
-            (rw (second (goal.at.returns c).After-ruin_row, second-zeros (goal.at.returns c).After-fill) at last.ensures.rewritten); parts = parts_both xs first.new.row last.new.row half (whole (goal.at.returns c).After-fill) first.auto.row first.ensures.parts last.ensures.parts }
+    let half = c.args.half in record {
+      lower = rw (first_half xs first.new.row last.new.row half (whole (goal.at.returns c).After-fill) first.auto.row) (rw (first-zeros (goal.at.returns c).After-fill) at first.ensures.rewritten);
+      upper = rw (second_half xs first.new.row last.new.row half (whole (goal.at.returns c).After-fill) first.auto.row)
+          (rw (second (goal.at.returns c).After-ruin_row, second-zeros (goal.at.returns c).After-fill) at last.ensures.rewritten);
+      parts = parts_both xs first.new.row last.new.row half (whole (goal.at.returns c).After-fill) first.auto.row first.ensures.parts last.ensures.parts;
+    }

@@ -19,8 +19,8 @@ loop-x-preserved c =
       omega (arith, c.loop-x-test.true),
       omega (arith, loop.invariant.1),
       elim c.if-severity-x-ne0.branch [
-      | then-severity-x-ne0 w ↦ listed_filled F loop.sizes _ loop.count loop.x _ c.requires.0 here w.if-severity-x-ne0.true w.sizes-is w.count-is loop.invariant.2
-      | else-severity-x-ne0 w ↦ listed_empty F loop.sizes _ loop.count loop.x _ here w.if-severity-x-ne0.false w.sizes-is w.count-is loop.invariant.2
+        | then-severity-x-ne0 w ↦ listed_filled F loop.sizes _ loop.count loop.x _ c.requires.0 here w.if-severity-x-ne0.true w.sizes-is w.count-is loop.invariant.2
+        | else-severity-x-ne0 w ↦ listed_empty F loop.sizes _ loop.count loop.x _ here w.if-severity-x-ne0.false w.sizes-is w.count-is loop.invariant.2
       ],
     )
 

@@ -78,6 +78,9 @@ pub returns : goal.returns
 returns t c =
     let first = c.month_back in
     let rest = c.all_months_back in
-    let a = c.args in record { values = rw (first_and_rest a.chances.now (fits t (goal.at.returns t c).Else-chances-lt1).some-month)
+    let a = c.args in record {
+      values = rw (first_and_rest a.chances.now (fits t (goal.at.returns t c).Else-chances-lt1).some-month)
           (taken_back_more a.round a.severity.now a.shape a.opening (get_or a.chances.now 0 0) (take (length a.chances.now - 1) (drop 1 a.chances.now))
-          a.rows.now rest.new.rows first.new.rows rest.ensures.values first.ensures.back first.ensures.beyond); parts = first.ensures.parts }
+          a.rows.now rest.new.rows first.new.rows rest.ensures.values first.ensures.back first.ensures.beyond);
+      parts = first.ensures.parts;
+    }

@@ -71,9 +71,10 @@ returns-then-chances-lt1 t c = rw (no_chances c.args.chances.now (omega arith)) 
 -- with one month fewer to go
 pub value-requires : goal.value-requires
 value-requires t c =
-    let a = c.args in
-    (omega (arith, c.decreases, fewer_months a.chances.now),
-    later_terms a.round a.question a.severity.now a.chances.now a.level c.requires c.if-chances-lt1.false _ (omega arith))
+    let a = c.args in (
+      omega (arith, c.decreases, fewer_months a.chances.now),
+      later_terms a.round a.question a.severity.now a.chances.now a.level c.requires c.if-chances-lt1.false _ (omega arith),
+    )
 
 pub loop-x-init : goal.loop-x-init
 unfolding sum
@@ -84,9 +85,10 @@ overflow_sub-down t c = omega (arith, inside t (goal.at.overflow_sub-down t c).I
 
 pub value-after-requires : goal.value-after-requires
 value-after-requires t c =
-    let a = c.args in
-    (omega (arith, c.decreases, fewer_months a.chances.now),
-    later_terms a.round a.question a.severity.now a.chances.now a.level c.requires c.if-chances-lt1.false _ (omega arith))
+    let a = c.args in (
+      omega (arith, c.decreases, fewer_months a.chances.now),
+      later_terms a.round a.question a.severity.now a.chances.now a.level c.requires c.if-chances-lt1.false _ (omega arith),
+    )
 
 pub offset_bounds-severity-x : goal.offset_bounds-severity-x
 offset_bounds-severity-x t c = omega (arith, inside t (goal.at.offset_bounds-severity-x t c).In-loop-x)
@@ -111,11 +113,12 @@ month_value-requires t c =
     let n = c.loop-x.sum in
     let left : n % S < S = omega arith in
     let whole_fits : n ≤ S * S = rw (sum_is t (goal.at.month_value-requires t c).After-loop-x) (sum_fits a.round a.question a.severity.now a.chances.now a.level c.requires a.left) in
-    let joined : n / S * S + n % S ≤ S * S = rw (div-add-mod' n S) whole_fits in
-    (c.requires.chances_fit 0,
-    rw (quiet_is t (goal.at.month_value-requires t c).After-followed-most) (row_fits a.round a.question a.severity.now a.chances.now a.level c.requires a.left (a.level + small_income)),
-    joined,
-    left)
+    let joined : n / S * S + n % S ≤ S * S = rw (div-add-mod' n S) whole_fits in (
+      c.requires.chances_fit 0,
+      rw (quiet_is t (goal.at.month_value-requires t c).After-followed-most) (row_fits a.round a.question a.severity.now a.chances.now a.level c.requires a.left (a.level + small_income)),
+      joined,
+      left,
+    )
 
 pub returns : goal.returns
 unfolding S
