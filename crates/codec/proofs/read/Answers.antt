@@ -56,20 +56,20 @@ slice_bounds-decode-end-2 c =
     )))
 
 -- what is stored is the plan's row
-decoded : (c : After-decode) → c.row_length-count.result ≤ length c.args.row.now → c.row_length-count.result ≡ row_length (head_of c.args.bytes.now) → c.decode.new.row ≡ row_of c.args.bytes.now
+decoded : (c : After-decode) → c.decode.new.row ≡ row_of c.args.bytes.now
 unfolding row_of
-decoded c fits count =
+decoded c =
+    let count : c.row_length-count.result ≡ row_length (head_of c.args.bytes.now) = c.row_length-count.ensures ∙ ap row_length c.head_of-head.ensures in
+    let known : Readable c.args.bytes.now (length c.args.row.now) = readable _ _ (sym c.refusal-wrong.ensures ∙ c.if-wrong-ne0.false) in
+    let fits : c.row_length-count.result ≤ length c.args.row.now = omega (arith, count, known.row_fits) in
     c.decode.ensures
     ∙ ap
     (λ n. fields number_width n (drop head_bits (bits_of c.args.bytes.now)))
     (length-take-le _ _ fits ∙ count)
 
 pub returns : goal.returns
-returns c = record {
-  answer = ap₂ read_as c.if-wrong-ne0.false c.head_of-head.ensures ∙ sym (head_answered _ _ (none (goal.at.returns c).Else-wrong-ne0));
-  memory = ap₂ (λ l n. l ++ drop n c.args.row.now) (decoded (goal.at.returns c).After-decode (omega (arith, count_is (goal.at.returns c).After-row_length-count, (known (goal.at.returns c).Else-wrong-ne0).row_fits)) (count_is (goal.at.returns c).After-row_length-count)) (count_is (goal.at.returns c).After-row_length-count)
-      ∙ sym (filled _ _ _ _ (none (goal.at.returns c).Else-wrong-ne0));
-}
+returns c = record { answer = ap₂ read_as c.if-wrong-ne0.false c.head_of-head.ensures ∙ sym (head_answered _ _ (none (goal.at.returns c).Else-wrong-ne0)); memory = ap₂ (λ l n. l ++ drop n c.args.row.now) (decoded (goal.at.returns c).After-decode) (count_is (goal.at.returns c).After-row_length-count)
+          ∙ sym (filled _ _ _ _ (none (goal.at.returns c).Else-wrong-ne0)) }
 
 pub decode-requires : goal.decode-requires
 decode-requires c =

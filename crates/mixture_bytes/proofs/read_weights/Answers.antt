@@ -1,4 +1,3 @@
-use Prim.Native.Nat.{◌-◌}
 use native.Mathlib.Omega.{arith}
 use borrow.Author.Rules.{rules}
 use Rattle.mixture_bytes.proofs.WeightLaws.{weighing_none, weighing_more, weighing_done}

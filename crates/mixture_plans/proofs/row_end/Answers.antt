@@ -1,5 +1,4 @@
 -- `row_end` meets its contract, by whether the plan is the last.
-use Prim.Native.Nat.{◌-◌}
 use Rattle.mixture_plans.proofs.row_end.Goals as goal
 
 pub returns : goal.returns

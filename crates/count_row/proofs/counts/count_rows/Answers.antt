@@ -1,4 +1,3 @@
-use Prim.Native.Nat.{◌-◌}
 use native.Mathlib.Omega.{arith}
 use Rattle.count_row.proofs.CountLaws.{counting_rows_start, counting_rows_turn, counting_rows_end}
 use Rattle.count_row.proofs.counts.count_rows.Goals as goal

@@ -1,5 +1,5 @@
 -- `plan_bits::reading::numbers_refusal` meets its contract: the first numbers of its row are those that follow the head.
-use Prim.Native.Nat.{ℕ}
+use Prim.Native.Nat.{ℕ, ◌≤◌}
 use mathlib.Core.Path.{◌≡◌, sym, ap, ◌∙◌}
 use native.Mathlib.Omega.{arith}
 use lib.ListN.{length, take, drop, replicate, length-append}
@@ -9,24 +9,24 @@ use Rattle.model.specs.Format.{number_width, head_bits, bits_of, fields}
 use Rattle.model.specs.Refusal.{plan_refusal}
 use Rattle.plan_bits.proofs.Fields.{length_fields}
 use Rattle.plan_bits.proofs.reading.numbers_refusal.Goals as goal
-use Rattle.plan_bits.proofs.reading.numbers_refusal.Goals.{After-decode, After-row-1}
+use Rattle.plan_bits.proofs.reading.numbers_refusal.Goals.{After-decode}
 
 -- the part that is lent has as many numbers as are asked for
-lent_length : (c : After-row-1) → length {A = ℕ} (take c.args.count (replicate row_room 0)) ≡ c.args.count
-lent_length c = length-take-le _ _ c.requires.fits
+lent_length : (count : ℕ) → count ≤ row_room → length {A = ℕ} (take count (replicate row_room 0)) ≡ count
+lent_length count fits = length-take-le _ _ fits
 
 pub slice_bounds-decode-end : goal.slice_bounds-decode-end
-slice_bounds-decode-end c = sym (lent_length (goal.at.slice_bounds-decode-end c).After-row-1)
+slice_bounds-decode-end c = sym (lent_length c.args.count c.requires.fits)
 
 pub decode-requires : goal.decode-requires
-decode-requires c = rw (lent_length (goal.at.decode-requires c).After-row-1) c.requires
+decode-requires c = rw (lent_length c.args.count c.requires.fits) c.requires
 
 -- the numbers that were read
 decoded : (c : After-decode) → c.decode.new.row ≡ fields number_width c.args.count (drop head_bits (bits_of c.args.bytes.now))
-decoded c = c.decode.ensures ∙ ap (λ n. fields number_width n (drop head_bits (bits_of c.args.bytes.now))) (let lent_length : length {A = ℕ} (take c.args.count (replicate row_room 0)) ≡ c.args.count = length-take-le _ _ c.requires.fits in lent_length)
+decoded c = c.decode.ensures ∙ ap (λ n. fields number_width n (drop head_bits (bits_of c.args.bytes.now))) (lent_length c.args.count c.requires.fits)
 
 decoded-length : (c : After-decode) → length c.decode.new.row ≡ c.args.count
-decoded-length c = ap length (let decoded : c.decode.new.row ≡ fields number_width c.args.count (drop head_bits (bits_of c.args.bytes.now)) = c.decode.ensures ∙ ap (λ n. fields number_width n (drop head_bits (bits_of c.args.bytes.now))) (let lent_length : length {A = ℕ} (take c.args.count (replicate row_room 0)) ≡ c.args.count = length-take-le _ _ c.requires.fits in lent_length) in decoded) ∙ length_fields number_width _ _
+decoded-length c = ap length (decoded c) ∙ length_fields number_width _ _
 
 pub slice_bounds-row-end-2 : goal.slice_bounds-row-end-2
 slice_bounds-row-end-2 c = simp length-append (omega (arith, decoded-length (goal.at.slice_bounds-row-end-2 c).After-decode))
