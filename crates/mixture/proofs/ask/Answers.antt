@@ -1,15 +1,15 @@
 -- `ask` meets its contract: a refusal, or the weighted sums of the plans' bounds, divided.
 use mathlib.Core.Path.{refl, sym, ap, ◌∙◌}
+use native.Mathlib.Omega.{arith}
 use lib.ListN.{length}
 use Rattle.model.specs.declared.Rounding.TheVariants.{Down, Up}
-use Rattle.model.specs.Limits.{max_plans}
 use Rattle.model.specs.Scale.{S, quotient}
 use Rattle.model.specs.Refusal.{workspace_needed}
 use Rattle.engine.specs.Answers.{refused}
 use Rattle.engine.proofs.AnswerLaws.{refused_out, answered_out, answer_worked}
 use Rattle.mixture_plans.specs.Rows.{components_of}
 use Rattle.mixture_plans.specs.Refusal.{ask_of_one}
-use Rattle.mixture_plans.proofs.CheckLaws.{mapped_length, MixtureFacts, mixture_facts, ask_passes}
+use Rattle.mixture_plans.proofs.CheckLaws.{MixtureFacts, mixture_facts, ask_passes}
 use Rattle.mixture.specs.Bounds.{mixture_bound, EnclosesMixture}
 use Rattle.mixture.specs.Sums.{Askable}
 use Rattle.mixture.specs.Answers.{mixture_answer}
@@ -20,20 +20,14 @@ use Rattle.mixture.proofs.ask.Goals.{Else-refusal-ne0}
 -- what is known where nothing is refused
 askable : (c : Else-refusal-ne0) → let a = c.args in Askable a.mixture a.question a.row.now (length a.workspace.now)
 askable c =
-    let good = c.good.0.1.1.1 in
     record {
       passes = sym c.ask_refusal-refusal.ensures ∙ c.if-refusal-ne0.false;
-      heads_long = mapped_length _ c.args.mixture.heads max_plans good.0.1.0.1;
-      weights_long = mapped_length _ c.args.mixture.weights max_plans good.1.0.1.0.1;
+      heads_long = omega arith;
+      weights_long = omega arith;
     }
 
 facts : (c : Else-refusal-ne0) → MixtureFacts c.args.mixture c.args.row.now
-facts c = let k = (let askable : let a = c.args in Askable a.mixture a.question a.row.now (length a.workspace.now) = let good = c.good.0.1.1.1 in
-    record {
-      passes = sym c.ask_refusal-refusal.ensures ∙ c.if-refusal-ne0.false;
-      heads_long = mapped_length _ c.args.mixture.heads max_plans good.0.1.0.1;
-      weights_long = mapped_length _ c.args.mixture.weights max_plans good.1.0.1.0.1;
-    } in askable) in mixture_facts _ _ k.heads_long k.weights_long (ask_passes _ _ _ _ k.passes).0
+facts c = let k = askable c in mixture_facts _ _ k.heads_long k.weights_long (ask_passes _ _ _ _ k.passes).0
 
 pub returns-then-refusal-ne0 : goal.returns-then-refusal-ne0
 unfolding mixture_answer refused

@@ -17,11 +17,11 @@ use Rattle.mixture.proofs.weighted_sums.Goals as goal
 use Rattle.mixture.proofs.weighted_sums.Goals.{After-ask-bounds, After-product-lower, After-product-upper, After-row_length, Start}
 
 -- what is known of the ask
-passes : (c : Start) → MixtureAccepted s.args.mixture s.args.row.now × ((outside s.args.question ≡ false) × (workspace_needed (ask_of_one s.args.mixture s.args.question) ≤ length s.args.workspace.now))
-passes c = ask_passes _ _ _ _ s.requires.passes
+passes : (c : Start) → MixtureAccepted c.args.mixture c.args.row.now × ((outside c.args.question ≡ false) × (workspace_needed (ask_of_one c.args.mixture c.args.question) ≤ length c.args.workspace.now))
+passes c = ask_passes _ _ _ _ c.requires.passes
 
-facts : (c : Start) → MixtureFacts s.args.mixture s.args.row.now
-facts c = mixture_facts _ _ s.requires.heads_long s.requires.weights_long (passes s).0
+facts : (c : Start) → MixtureFacts c.args.mixture c.args.row.now
+facts c = mixture_facts _ _ c.requires.heads_long c.requires.weights_long (passes c).0
 
 pub loop-i-init : goal.loop-i-init
 loop-i-init c =
@@ -39,15 +39,18 @@ row_length-requires c =
     accepted_head _ _ (next_accepted _ _ (facts (goal.at.row_length-requires c).Start) _ _ c.loop-i.invariant.asked c.loop-i-test.true)
 
 -- the plan's row lies in the lent one
-inside : (c : After-row_length) → c.loop-i.start + c.row_length.result ≤ length c.args.row.now
-inside c =
-    omega (arith, c.row_length.ensures, next_inside _ _ (let facts : MixtureFacts s.args.mixture s.args.row.now = mixture_facts _ _ s.requires.heads_long s.requires.weights_long (passes s).0 in facts) _ _ c.loop-i.invariant.asked c.loop-i-test.true)
+inside : (c : After-row_length) → MixtureFacts c.args.mixture c.args.row.now → c.loop-i.start + c.row_length.result ≤ length c.args.row.now
+inside c f = omega (arith, c.row_length.ensures, next_inside _ _ f _ _ c.loop-i.invariant.asked c.loop-i-test.true)
 
 pub overflow_add-end : goal.overflow_add-end
-overflow_add-end c = omega (arith, inside (goal.at.overflow_add-end c).After-row_length)
+overflow_add-end c =
+    let at = goal.at.overflow_add-end c in
+    omega (arith, inside at.After-row_length (facts at.Start))
 
 pub offset_bounds-row-start : goal.offset_bounds-row-start
-offset_bounds-row-start c = omega (arith, inside (goal.at.offset_bounds-row-start c).After-row_length)
+offset_bounds-row-start c =
+    let at = goal.at.offset_bounds-row-start c in
+    omega (arith, inside at.After-row_length (facts at.Start))
 
 pub slice_bounds-ask-count : goal.slice_bounds-ask-count
 slice_bounds-ask-count c = omega arith
@@ -56,7 +59,7 @@ pub slice_bounds-ask-start : goal.slice_bounds-ask-start
 slice_bounds-ask-start c = omega arith
 
 pub slice_bounds-ask-end : goal.slice_bounds-ask-end
-slice_bounds-ask-end c = inside (goal.at.slice_bounds-ask-end c).After-row_length
+slice_bounds-ask-end c = let at = goal.at.slice_bounds-ask-end c in inside at.After-row_length (facts at.Start)
 
 pub offset_bounds-weights-i : goal.offset_bounds-weights-i
 offset_bounds-weights-i c = omega (arith, (facts (goal.at.offset_bounds-weights-i c).Start).known.fits, c.loop-i-test.true)
@@ -65,43 +68,60 @@ pub bounds-weights-i : goal.bounds-weights-i
 bounds-weights-i c = omega (arith, (facts (goal.at.bounds-weights-i c).Start).known.fits, c.loop-i-test.true)
 
 -- what asking the plan gave
-given : (c : After-ask-bounds) → let a = c.args in let h = get_or a.mixture.heads c.loop-i.i (record { months = 0; opening = 0; sizes = 0; income = 0 }) in let p = plan_of h (take (row_length h) (drop c.loop-i.start a.row.now)) in (c.ask-bounds.result.lower ≡ lower p a.question) × ((c.ask-bounds.result.upper ≡ upper p a.question) × (c.ask-bounds.new.workspace ≡ zero_first (workspace_needed (ask_of_one a.mixture a.question)) c.loop-i.workspace))
+given :
+    (c : After-ask-bounds) →
+    let a = c.args in
+    let h = get_or a.mixture.heads c.loop-i.i (record { months = 0; opening = 0; sizes = 0; income = 0 }) in
+    let p = plan_of h (take (row_length h) (drop c.loop-i.start a.row.now)) in
+    (c.ask-bounds.result.lower ≡ lower p a.question)
+    × ((c.ask-bounds.result.upper ≡ upper p a.question)
+    × (c.ask-bounds.new.workspace ≡ zero_first (workspace_needed (ask_of_one a.mixture a.question)) c.loop-i.workspace))
 given c =
-    asked_next _ _ (let facts : MixtureFacts s.args.mixture s.args.row.now = mixture_facts _ _ s.requires.heads_long s.requires.weights_long (passes s).0 in facts) _ _ c.loop-i.invariant.asked c.loop-i-test.true _ (let passes : MixtureAccepted s.args.mixture s.args.row.now × ((outside s.args.question ≡ false) × (workspace_needed (ask_of_one s.args.mixture s.args.question) ≤ length s.args.workspace.now)) = ask_passes _ _ _ _ s.requires.passes in passes).1.0 _ c.row_length.ensures _ _ _
-    (omega (arith, (let passes : MixtureAccepted s.args.mixture s.args.row.now × ((outside s.args.question ≡ false) × (workspace_needed (ask_of_one s.args.mixture s.args.question) ≤ length s.args.workspace.now)) = ask_passes _ _ _ _ s.requires.passes in passes).1.1, c.loop-i.invariant.space.long)) c.ask-bounds.ensures.answered c.ask-bounds.ensures.cleared
+    let passed = ask_passes _ _ _ _ c.requires.passes in
+    let f = mixture_facts _ _ c.requires.heads_long c.requires.weights_long passed.0 in
+    asked_next _ _ f _ _ c.loop-i.invariant.asked c.loop-i-test.true _ passed.1.0 _ c.row_length.ensures _ _ _
+    (omega (arith, passed.1.1, c.loop-i.invariant.space.long)) c.ask-bounds.ensures.answered c.ask-bounds.ensures.cleared
 
 -- the products are those of the definition
-low_product : (c : After-product-lower) → let a = c.args in let h = get_or a.mixture.heads c.loop-i.i (record { months = 0; opening = 0; sizes = 0; income = 0 }) in c.product-lower.result ≡ get_or a.mixture.weights c.loop-i.i 0 * lower (plan_of h (take (row_length h) (drop c.loop-i.start a.row.now))) a.question
-low_product c =
-    c.product-lower.ensures ∙ ap (λ n. get_or c.args.mixture.weights c.loop-i.i 0 * n) (let given : let a = c.args in let h = get_or a.mixture.heads c.loop-i.i (record { months = 0; opening = 0; sizes = 0; income = 0 }) in let p = plan_of h (take (row_length h) (drop c.loop-i.start a.row.now)) in (c.ask-bounds.result.lower ≡ lower p a.question) × ((c.ask-bounds.result.upper ≡ upper p a.question) × (c.ask-bounds.new.workspace ≡ zero_first (workspace_needed (ask_of_one a.mixture a.question)) c.loop-i.workspace)) = asked_next _ _ (let facts : MixtureFacts s.args.mixture s.args.row.now = mixture_facts _ _ s.requires.heads_long s.requires.weights_long (passes s).0 in facts) _ _ c.loop-i.invariant.asked c.loop-i-test.true _ (let passes : MixtureAccepted s.args.mixture s.args.row.now × ((outside s.args.question ≡ false) × (workspace_needed (ask_of_one s.args.mixture s.args.question) ≤ length s.args.workspace.now)) = ask_passes _ _ _ _ s.requires.passes in passes).1.0 _ c.row_length.ensures _ _ _
-    (omega (arith, (let passes : MixtureAccepted s.args.mixture s.args.row.now × ((outside s.args.question ≡ false) × (workspace_needed (ask_of_one s.args.mixture s.args.question) ≤ length s.args.workspace.now)) = ask_passes _ _ _ _ s.requires.passes in passes).1.1, c.loop-i.invariant.space.long)) c.ask-bounds.ensures.answered c.ask-bounds.ensures.cleared in given).0
+low_product :
+    (c : After-product-lower) →
+    let a = c.args in
+    let h = get_or a.mixture.heads c.loop-i.i (record { months = 0; opening = 0; sizes = 0; income = 0 }) in
+    let p = plan_of h (take (row_length h) (drop c.loop-i.start a.row.now)) in
+    c.ask-bounds.result.lower ≡ lower p a.question → c.product-lower.result ≡ get_or a.mixture.weights c.loop-i.i 0 * lower p a.question
+low_product c e = c.product-lower.ensures ∙ ap (λ n. get_or c.args.mixture.weights c.loop-i.i 0 * n) e
 
-high_product : (c : After-product-upper) → let a = c.args in let h = get_or a.mixture.heads c.loop-i.i (record { months = 0; opening = 0; sizes = 0; income = 0 }) in c.product-upper.result ≡ get_or a.mixture.weights c.loop-i.i 0 * upper (plan_of h (take (row_length h) (drop c.loop-i.start a.row.now))) a.question
-high_product c =
-    c.product-upper.ensures ∙ ap (λ n. get_or c.args.mixture.weights c.loop-i.i 0 * n) (let given : let a = c.args in let h = get_or a.mixture.heads c.loop-i.i (record { months = 0; opening = 0; sizes = 0; income = 0 }) in let p = plan_of h (take (row_length h) (drop c.loop-i.start a.row.now)) in (c.ask-bounds.result.lower ≡ lower p a.question) × ((c.ask-bounds.result.upper ≡ upper p a.question) × (c.ask-bounds.new.workspace ≡ zero_first (workspace_needed (ask_of_one a.mixture a.question)) c.loop-i.workspace)) = asked_next _ _ (let facts : MixtureFacts s.args.mixture s.args.row.now = mixture_facts _ _ s.requires.heads_long s.requires.weights_long (passes s).0 in facts) _ _ c.loop-i.invariant.asked c.loop-i-test.true _ (let passes : MixtureAccepted s.args.mixture s.args.row.now × ((outside s.args.question ≡ false) × (workspace_needed (ask_of_one s.args.mixture s.args.question) ≤ length s.args.workspace.now)) = ask_passes _ _ _ _ s.requires.passes in passes).1.0 _ c.row_length.ensures _ _ _
-    (omega (arith, (let passes : MixtureAccepted s.args.mixture s.args.row.now × ((outside s.args.question ≡ false) × (workspace_needed (ask_of_one s.args.mixture s.args.question) ≤ length s.args.workspace.now)) = ask_passes _ _ _ _ s.requires.passes in passes).1.1, c.loop-i.invariant.space.long)) c.ask-bounds.ensures.answered c.ask-bounds.ensures.cleared in given).1.0
+high_product :
+    (c : After-product-upper) →
+    let a = c.args in
+    let h = get_or a.mixture.heads c.loop-i.i (record { months = 0; opening = 0; sizes = 0; income = 0 }) in
+    let p = plan_of h (take (row_length h) (drop c.loop-i.start a.row.now)) in
+    c.ask-bounds.result.upper ≡ upper p a.question → c.product-upper.result ≡ get_or a.mixture.weights c.loop-i.i 0 * upper p a.question
+high_product c e = c.product-upper.ensures ∙ ap (λ n. get_or c.args.mixture.weights c.loop-i.i 0 * n) e
 
 pub overflow_add-lower : goal.overflow_add-lower
 unfolding S
 overflow_add-lower c =
-    omega (arith, summing_fits _ _ (facts (goal.at.overflow_add-lower c).Start) _ _ c.loop-i.invariant.asked c.loop-i-test.true Down _ _ c.loop-i.invariant.lows _ (low_product (goal.at.overflow_add-lower c).After-product-lower))
+    omega (arith, summing_fits _ _ (facts (goal.at.overflow_add-lower c).Start) _ _ c.loop-i.invariant.asked c.loop-i-test.true Down _ _ c.loop-i.invariant.lows _ (low_product (goal.at.overflow_add-lower c).After-product-lower (given (goal.at.overflow_add-lower c).After-ask-bounds).0))
 
 pub overflow_add-upper : goal.overflow_add-upper
 unfolding S
 overflow_add-upper c =
-    omega (arith, summing_fits _ _ (facts (goal.at.overflow_add-upper c).Start) _ _ c.loop-i.invariant.asked c.loop-i-test.true Up _ _ c.loop-i.invariant.highs _ (high_product (goal.at.overflow_add-upper c).After-product-upper))
+    omega (arith, summing_fits _ _ (facts (goal.at.overflow_add-upper c).Start) _ _ c.loop-i.invariant.asked c.loop-i-test.true Up _ _ c.loop-i.invariant.highs _ (high_product (goal.at.overflow_add-upper c).After-product-upper (given (goal.at.overflow_add-upper c).After-ask-bounds).1.0))
 
 pub loop-i-preserved : goal.loop-i-preserved
 loop-i-preserved c =
-    let f = facts (goal.at.loop-i-preserved c).Start in
+    let at = goal.at.loop-i-preserved c in
+    let f = facts at.Start in
     let inv = c.loop-i.invariant in
     let here = c.loop-i-test.true in
+    let told = given at.After-ask-bounds in
     mixing_more _ _ _ _ _ _ _ _ _ _ _ _ _ c.row_length.ensures
     (record {
-      c = next_asked _ _ f _ _ inv.asked here;
-      lows = summing_more _ _ f _ _ inv.asked here Down _ _ inv.lows _ (low_product (goal.at.loop-i-preserved c).After-product-lower);
-      highs = summing_more _ _ f _ _ inv.asked here Up _ _ inv.highs _ (high_product (goal.at.loop-i-preserved c).After-product-upper);
-      space = reused_more _ _ _ _ _ inv.space c.ask-bounds.auto.workspace (given (goal.at.loop-i-preserved c).After-ask-bounds).1.1;
+      asked = next_asked _ _ f _ _ inv.asked here;
+      lows = summing_more _ _ f _ _ inv.asked here Down _ _ inv.lows _ (low_product at.After-product-lower told.0);
+      highs = summing_more _ _ f _ _ inv.asked here Up _ _ inv.highs _ (high_product at.After-product-upper told.1.0);
+      space = reused_more _ _ _ _ _ inv.space c.ask-bounds.auto.workspace told.1.1;
     })
 
 pub shape_of-workspace : goal.shape_of-workspace

@@ -28,10 +28,10 @@ none_fits : (c : Else-refusal-ne0) → let a = c.args in target_refusal a.head a
 none_fits c = sym c.check-refusal.ensures ∙ c.if-refusal-ne0.false
 
 asked : (c : Else-refusal-ne0) → let a = c.args in Asked a.head a.row.now (target_outside a.target) (survival_workspace a.head) (length a.workspace.now)
-asked c = let a = c.args in known a.head a.row.now a.target (length a.workspace.now) (let none_fits : let a = c.args in target_refusal a.head a.row.now a.target (length a.workspace.now) ≡ 0 = sym c.check-refusal.ensures ∙ c.if-refusal-ne0.false in none_fits)
+asked c = let a = c.args in known a.head a.row.now a.target (length a.workspace.now) (none_fits c)
 
 fits : (c : Else-refusal-ne0) → let a = c.args in Facts a.head a.row.now
-fits c = let a = c.args in facts a.head a.row.now (let asked : let a = c.args in Asked a.head a.row.now (target_outside a.target) (survival_workspace a.head) (length a.workspace.now) = let a = c.args in known a.head a.row.now a.target (length a.workspace.now) (let none_fits : let a = c.args in target_refusal a.head a.row.now a.target (length a.workspace.now) ≡ 0 = sym c.check-refusal.ensures ∙ c.if-refusal-ne0.false in none_fits) in asked).accepted
+fits c = let a = c.args in facts a.head a.row.now (asked c).accepted
 
 pub overflow_add-end : goal.overflow_add-end
 overflow_add-end c = omega (arith, (fits (goal.at.overflow_add-end c).Else-refusal-ne0).row_is)
@@ -42,7 +42,9 @@ row_levels-needed-requires c = accepted_head _ _ (asked (goal.at.row_levels-need
 -- the workspace has room for what is needed
 enough : (c : After-row_levels-needed) → 2 * c.row_levels-needed.result ≤ length c.args.workspace.now
 enough c =
-    omega (arith, (let asked : let a = c.args in Asked a.head a.row.now (target_outside a.target) (survival_workspace a.head) (length a.workspace.now) = let a = c.args in known a.head a.row.now a.target (length a.workspace.now) (let none_fits : let a = c.args in target_refusal a.head a.row.now a.target (length a.workspace.now) ≡ 0 = sym c.check-refusal.ensures ∙ c.if-refusal-ne0.false in none_fits) in asked).enough, needed_is c.args.head c.row_levels-needed.result c.row_levels-needed.ensures)
+    let a = c.args in
+    let asked = known a.head a.row.now a.target (length a.workspace.now) (sym c.check-refusal.ensures ∙ c.if-refusal-ne0.false) in
+    omega (arith, asked.enough, needed_is a.head c.row_levels-needed.result c.row_levels-needed.ensures)
 
 pub overflow_mul-needed : goal.overflow_mul-needed
 overflow_mul-needed c = omega (arith, enough (goal.at.overflow_mul-needed c).After-row_levels-needed)
@@ -64,22 +66,31 @@ slice_bounds-search-end-4 c = omega (arith, (fits (goal.at.slice_bounds-search-e
 
 pub search-requires : goal.search-requires
 search-requires c =
-    let at-levels = measured c in
-    let else1 = unrefused at-levels in
-    let a = (start else1.before).args in
-    let months = length-take-le a.head.months a.row.now (omega (arith, (fits else1).row_is)) in record { income_nonzero = (
+    let at-levels = (goal.at.search-requires c).After-row_levels-needed in
+    let else1 = (goal.at.search-requires c).Else-refusal-ne0 in
+    let a = c.args in
+    let needed = c.row_levels-needed in
+    let months = length-take-le a.head.months a.row.now (omega (arith, (fits else1).row_is)) in
+    record {
+      income_nonzero = (
         (fits else1).head.income_some,
-        length-take-le (2 * at-levels.row_levels.result) a.workspace.now (enough at-levels)
-            ∙ ap (λ n. 2 * n) (at-levels.row_levels.ensures ∙ ap (λ n. row_levels a.head.income a.head.opening n) (sym months)),
-      ); plan_terms = terms_lent a.head a.row.now (fits else1) a.head.months; target_nonzero = target_inside a.target (asked else1).inside }
+        length-take-le (2 * needed.result) a.workspace.now (enough at-levels)
+            ∙ ap (λ n. 2 * n) (needed.ensures ∙ ap (λ n. row_levels a.head.income a.head.opening n) (sym months)),
+      );
+      plan_terms = terms_lent a.head a.row.now (fits else1) a.head.months;
+      target_nonzero = target_inside a.target (asked else1).inside;
+    }
 
 pub returns : goal.returns
 returns c =
-    let at-levels = measured c in
-    let else1 = unrefused at-levels in
-    let a = (start else1.before).args in
+    let at-levels = (goal.at.returns c).After-row_levels-needed in
+    let else1 = (goal.at.returns c).Else-refusal-ne0 in
+    let a = c.args in
     let h = a.head in
-    let row = a.row.now in let both = clauses h row a.target a.workspace.now _ c.search.result
+    let row = a.row.now in
+    let needed = c.row_levels-needed in
+    let both = clauses h row a.target a.workspace.now _ c.search.result
     (lent_is h row a.target c.search.result c.search.ensures.answered ∙ search_is h row a.target (length a.workspace.now) (none_fits else1))
-    (cleared_is _ (2 * at-levels.row_levels.result) (survival_workspace h) a.workspace.now c.search.new.workspace (none_fits else1)
-    (needed_is h at-levels.row_levels.result at-levels.row_levels.ensures) (enough at-levels) c.search.ensures.cleared) in record { answered = both.0; cleared = both.1.0; least = both.1.1.0; none = both.1.1.1.0; encloses = both.1.1.1.1 }
+    (cleared_is _ (2 * needed.result) (survival_workspace h) a.workspace.now c.search.new.workspace (none_fits else1)
+    (needed_is h needed.result needed.ensures) (enough at-levels) c.search.ensures.cleared) in
+    record { answered = both.0; cleared = both.1.0; least = both.1.1.0; none = both.1.1.1.0; encloses = both.1.1.1.1 }

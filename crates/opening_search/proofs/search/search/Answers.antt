@@ -14,4 +14,4 @@ pub listed_search-requires : goal.listed_search-requires
 listed_search-requires c = record { income_nonzero = c.requires.income_nonzero; plan_terms = (c.requires.plan_terms, c.list_sizes-filled.ensures.listed); target_nonzero = c.requires.target_nonzero }
 
 pub returns : goal.returns
-returns c = let both = c.listed_search.ensures in record { answered = both.0; cleared = both.1 }
+returns c = let both = c.listed_search.ensures in record { answered = both.answered; cleared = both.cleared }
