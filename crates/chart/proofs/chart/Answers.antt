@@ -7,4 +7,6 @@ pub put_chart-requires : goal.put_chart-requires
 put_chart-requires c = omega arith
 
 pub returns : goal.returns
-returns c = let both = appended_whole c.put_chart.ensures in record { answered = both.0; written = both.1.0; within = both.1.1 }
+returns c =
+    let both = appended_whole c.put_chart.ensures in
+    record { answered = both.0; written = both.1.0; within = both.1.1 }

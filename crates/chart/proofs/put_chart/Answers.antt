@@ -12,7 +12,7 @@ plan c = plan_read c.args.bytes.now c.read_plan-plan.ensures c.if-refusal-ne0.fa
 pub returns-then-refusal-ne0 : goal.returns-then-refusal-ne0
 returns-then-refusal-ne0 c =
     let number = read_number c.args.bytes.now c.read_plan-plan.ensures in
-    rw (chart_refused _ (λ z. c.if-refusal-ne0.true (number ∙ z)), ← number) c.Put-refused.ensures
+    rw (chart_refused _ (λ z. c.if-refusal-ne0.true (number ∙ z)), ← number) c.put_refused.ensures
 
 pub put_plan-requires : goal.put_plan-requires
 put_plan-requires c = let read = plan (goal.at.put_plan-requires c).Else-refusal-ne0 in record { accepted = rw (read.head, read.row) read.accepted; text_room_in_bounds = search rules }

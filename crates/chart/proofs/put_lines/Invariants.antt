@@ -5,7 +5,7 @@ use Rattle.chart.specs.Chart.{pair_line}
 use Rattle.chart.proofs.put_lines.Given as goal
 
 abbrev pub invariant-loop-v : goal.invariant-loop-v
-invariant-loop-v l = Appending (pair_line l.bounds) (l.opening + 1) l.initial.text 0 l.end l.v v
+invariant-loop-v l = Appending (pair_line l.bounds) (l.opening + 1) l.initial.text 0 l.text l.end l.v
 
 abbrev pub decreases-loop-v : goal.decreases-loop-v
-decreases-loop-v l = l.opening + 1 - v
+decreases-loop-v l = l.opening + 1 - l.v

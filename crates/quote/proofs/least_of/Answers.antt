@@ -7,8 +7,8 @@ pub row_length-used-requires : goal.row_length-used-requires
 row_length-used-requires c = accepted_head _ _ c.requires
 
 pub slice_bounds-least-end : goal.slice_bounds-least-end
-slice_bounds-least-end c = rw (used c).row_length.ensures (sym (facts _ _ (start (used c)).requires).row_is)
+slice_bounds-least-end c = rw c.row_length-used.ensures (sym (facts _ _ c.requires).row_is)
 
 pub returns : goal.returns
 returns c =
-    rw (← (used c).row_length.ensures, c.blank_survival_workspace-workspace.ensures.sized) c.least.ensures.answered
+    rw (← c.row_length-used.ensures, c.blank_survival_workspace-workspace.ensures.sized) c.least.ensures.answered

@@ -4,7 +4,7 @@ use Rattle.quote.proofs.put_answer.Goals as goal
 
 pub returns-then-refusal-ne0 : goal.returns-then-refusal-ne0
 returns-then-refusal-ne0 c =
-    rw (answer_refused c.args.answer c.if-refusal-ne0.true) c.Put-refused.ensures
+    rw (answer_refused c.args.answer c.if-refusal-ne0.true) c.put_refused.ensures
 
 pub returns : goal.returns
 returns c =

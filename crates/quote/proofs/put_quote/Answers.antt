@@ -11,7 +11,7 @@ plan c = plan_read c.args.bytes.now c.read_plan-plan.ensures c.if-refusal-ne0.fa
 pub returns-then-refusal-ne0 : goal.returns-then-refusal-ne0
 returns-then-refusal-ne0 c =
     let number = read_number c.args.bytes.now c.read_plan-plan.ensures in
-    rw (quote_refused _ _ (λ z. c.if-refusal-ne0.true (number ∙ z)), ← number) c.Put-refused.ensures
+    rw (quote_refused _ _ (λ z. c.if-refusal-ne0.true (number ∙ z)), ← number) c.put_refused.ensures
 
 pub least_of-requires : goal.least_of-requires
 least_of-requires c = let read = plan (goal.at.least_of-requires c).Else-refusal-ne0 in rw (read.head, read.row) read.accepted

@@ -7,4 +7,6 @@ pub put_quote-requires : goal.put_quote-requires
 put_quote-requires c = omega arith
 
 pub returns : goal.returns
-returns c = let both = appended_whole c.put_quote.ensures in record { answered = both.0; written = both.1.0; within = both.1.1 }
+returns c =
+    let both = appended_whole c.put_quote.ensures in
+    record { answered = both.0; written = both.1.0; within = both.1.1 }

@@ -10,4 +10,6 @@ unfolding most_lines
 put_report-requires c = (omega arith, search rules)
 
 pub returns : goal.returns
-returns c = let both = appended_whole c.put_report.ensures.written in record { answered = both.0; written = both.1.0; within = both.1.1 }
+returns c =
+    let both = appended_whole c.put_report.ensures.written in
+    record { answered = both.0; written = both.1.0; within = both.1.1 }
