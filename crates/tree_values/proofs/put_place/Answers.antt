@@ -9,43 +9,41 @@ use Rattle.text.proofs.TextLaws.{appended_more, room_first, room_rest}
 use Rattle.tree_values.specs.Lines.{left_text, place_text}
 use Rattle.tree_values.proofs.ValueLines.{value_line, value_room, value_put}
 use Rattle.tree_values.proofs.put_place.Goals as goal
-use Rattle.tree_values.proofs.put_place.Goals.{After-put_left-end, Start}
+use Rattle.tree_values.proofs.put_place.Goals.{Start, After-put_left-end}
 
 -- room for the two, and for the line of the value after them
-first-room : (c : Start) → s.args.at + length (first-text s) ≤ length s.args.text.now
+first_room : (c : Start) → let a = c.args in a.at + length (entry a.word.now (a.level ∷ []) ++ left_text a.question a.left) ≤ length a.text.now
 unfolding place_text
-first-room c = room_first s.args.at (first-text s) (value_line s.args.allowed s.args.bounds) s.requires
+first_room c = let a = c.args in room_first a.at (entry a.word.now (a.level ∷ []) ++ left_text a.question a.left) (value_line a.allowed a.bounds) c.requires
 
-first-written : (c : After-put_left-end) → Appended c.args.text.now c.args.at (level_text s ++ left_text s.args.question s.args.left) c.put_left-end.new.text c.put_left-end.result
-first-written c = appended_more c.put_entry-end.ensures c.put_left-end.ensures
+first_written : (c : After-put_left-end) → let a = c.args in Appended a.text.now a.at (entry a.word.now (a.level ∷ []) ++ left_text a.question a.left) c.put_left-end.new.text c.put_left-end.result
+first_written c = appended_more c.put_entry-end.ensures c.put_left-end.ensures
 
-after-left : (c : After-put_left-end) → let a = c.args in c.put_left-end.result + length (value_line a.allowed a.bounds) ≤ length c.put_left-end.new.text
+after_left : (c : After-put_left-end) → let a = c.args in c.put_left-end.result + length (value_line a.allowed a.bounds) ≤ length c.put_left-end.new.text
 unfolding place_text
-after-left c =
-    room_rest (value_line c.args.allowed c.args.bounds) (let first_written : Appended c.args.text.now c.args.at (level_text s ++ left_text s.args.question s.args.left) c.put_left-end.new.text c.put_left-end.result = appended_more c.put_entry-end.ensures c.put_left-end.ensures in first_written) (c.put_left-end.auto.text ∙ c.put_entry-end.auto.buffer) c.requires
+after_left c = room_rest (value_line c.args.allowed c.args.bounds) (first_written c) (c.put_left-end.auto.text ∙ c.put_entry-end.auto.buffer) c.requires
 
-written : (c : After-put_left-end) (b : List ℕ) (end : ℕ) → let a = c.args in Appended c.put_left-end.new.text c.put_left-end.result (value_line a.allowed a.bounds) b end → Appended a.text.now a.at (place_text a.word.now a.question a.left a.level a.allowed a.bounds) b end
+written :
+    (c : After-put_left-end) (b : List ℕ) (end : ℕ) → let a = c.args in
+    Appended c.put_left-end.new.text c.put_left-end.result (value_line a.allowed a.bounds) b end →
+    Appended a.text.now a.at (place_text a.word.now a.question a.left a.level a.allowed a.bounds) b end
 unfolding place_text
-written c b end put = appended_more (let first_written : Appended c.args.text.now c.args.at (level_text s ++ left_text s.args.question s.args.left) c.put_left-end.new.text c.put_left-end.result = appended_more c.put_entry-end.ensures c.put_left-end.ensures in first_written) put
-
--- ?? need overflow-cast-t14
-
-
--- ?? need overflow-cast-t15
-
+written c b end put = appended_more (first_written c) put
 
 pub put_entry-end-requires : goal.put_entry-end-requires
-put_entry-end-requires c = room_first c.args.at (entry s.args.word.now (s.args.level ∷ [])) (left_text c.args.question c.args.left) (first-room (goal.at.put_entry-end-requires c).Start)
+put_entry-end-requires c =
+    let a = c.args in
+    room_first a.at (entry a.word.now (a.level ∷ [])) (left_text a.question a.left) (first_room (goal.at.put_entry-end-requires c).Start)
 
 pub put_left-end-requires : goal.put_left-end-requires
 put_left-end-requires c =
     let a = c.args in
-    room_rest (left_text a.question a.left) c.put_entry-end.ensures c.put_entry-end.auto.buffer (first-room (goal.at.put_left-end-requires c).Start)
+    room_rest (left_text a.question a.left) c.put_entry-end.ensures c.put_entry-end.auto.buffer (first_room (goal.at.put_left-end-requires c).Start)
 
 pub put_line-requires : goal.put_line-requires
 put_line-requires c =
     let a = c.args in
-    value_room a.allowed true a.bounds _ _ c.if-allowed.true (after-left (goal.at.put_line-requires c).After-put_left-end)
+    value_room a.allowed true a.bounds _ _ c.if-allowed.true (after_left (goal.at.put_line-requires c).After-put_left-end)
 
 pub returns-then-allowed : goal.returns-then-allowed
 returns-then-allowed c =
@@ -55,7 +53,7 @@ returns-then-allowed c =
 pub put_line-requires-2 : goal.put_line-requires-2
 put_line-requires-2 c =
     let a = c.args in
-    value_room a.allowed false a.bounds _ _ c.if-allowed.false (after-left (goal.at.put_line-requires-2 c).After-put_left-end)
+    value_room a.allowed false a.bounds _ _ c.if-allowed.false (after_left (goal.at.put_line-requires-2 c).After-put_left-end)
 
 pub returns : goal.returns
 returns c =
