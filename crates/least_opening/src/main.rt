@@ -2,57 +2,85 @@
 // target, with its bounds, or why there is none, to standard output. The target is the one argument.
 #![tactic(auto)]
 
-use libc::{STDERR_FILENO, STDIN_FILENO, STDOUT_FILENO};
+ghost use Rattle.std.specs.Prelude.{◌≤◌, length};
+
+use std::env::{Env, FillError};
 
 // The program's name is counted too. Without a target nothing is read.
-fn main() {
-    let count = os::arg_count();
+fn main(rt: HostRuntime) {
+    let count = argument_count(&rt);
     if count < 2 {
-        say(b"no target");
+        say(&rt, "no target");
     } else if 2 < count {
-        say(b"more than one argument");
+        say(&rt, "more than one argument");
     } else {
-        with_target();
+        with_target(&rt);
     }
 }
 
-// An argument that the buffer does not hold comes as an empty one.
-fn with_target() {
-    let mut argument = io::buffer();
-    let n = os::arg(1, &mut argument);
-    let target = arguments::number_of(&argument[..n]);
+fn with_target(rt: &HostRuntime) {
+    let mut word = io::buffer();
+    let n = argument(rt, 1, &mut word);
+    let target = arguments::number_of(&word[..n]);
     let readable = target.readable;
     let parts = target.value;
     if readable {
-        answer(parts);
+        answer(rt, parts);
     } else {
-        say(b"the target is not a number");
+        say(rt, "the target is not a number");
     }
 }
 
 // The buffer holds more than the longest plan, so that a longer input is never taken for one. A plan that could not be read has no answer.
-fn answer(target: u32) {
+fn answer(rt: &HostRuntime, target: u32) {
     let mut bytes = io::buffer();
-    let input = streams::read_all(STDIN_FILENO, &mut bytes, b"least_opening: standard input");
+    let input = streams::read_all(
+        &mut rt.stdin(),
+        &mut bytes,
+        b"least_opening: standard input",
+        &mut rt.stderr(),
+    );
     let n = input.length;
     let failed = input.failed;
     if !failed {
-        print(&bytes[..n], target);
+        print(rt, &bytes[..n], target);
     }
 }
 
-fn print(bytes: &[u8], target: u32) {
+fn print(rt: &HostRuntime, bytes: &[u8], target: u32) {
     let mut text = [0u8; quote::TEXT];
     let n = quote::quote(bytes, target, &mut text);
-    streams::write_all(STDOUT_FILENO, &text[..n], b"least_opening: standard output");
+    streams::write_all(
+        &mut rt.stdout(),
+        &text[..n],
+        b"least_opening: standard output",
+        &mut rt.stderr(),
+    );
 }
 
 // Why there is no target, and how to call the program.
-fn say(why: &[u8]) {
-    io::write_all(STDERR_FILENO, b"least_opening: ");
-    io::write_all(STDERR_FILENO, why);
-    io::write_all(
-        STDERR_FILENO,
-        b"; call: least_opening TARGET < PLAN, the target in parts of 2^30 (1 to 1073741824)\n",
+fn say(rt: &HostRuntime, why: &str) {
+    let _ = eprintln!(rt;
+        "least_opening: {why}; call: least_opening TARGET < PLAN, the target in parts of 2^30 (1 to 1073741824)"
     );
+}
+
+// How many arguments there are.
+fn argument_count(rt: &HostRuntime) -> usize {
+    for i in 0..usize::MAX {
+        if let Err(FillError::NotPresent) = rt.arg(i, &mut []) {
+            return i;
+        }
+    }
+    usize::MAX
+}
+
+// Puts an argument at the start of the buffer, and answers its length; one that is not there, or that the buffer does not hold, comes as an empty one.
+fn argument(rt: &HostRuntime, i: usize, buffer: &mut [u8]) -> usize
+    ensures { result ≤ length buffer.new }
+{
+    match rt.arg(i, buffer) {
+        Ok(n) => n,
+        Err(_) => 0,
+    }
 }

@@ -1,21 +1,29 @@
 // The report on a mixture: reads the bytes of a mix from standard input and writes its report, or why it is refused, to standard output.
 #![tactic(auto)]
 
-use libc::{STDIN_FILENO, STDOUT_FILENO};
-
 // The buffer holds more than the longest mix, so that a longer input is never taken for one. A mix that could not be read has no report.
-fn main() {
+fn main(rt: HostRuntime) {
     let mut bytes = io::large_buffer();
-    let input = streams::read_all(STDIN_FILENO, &mut bytes, b"mix_report: standard input");
+    let input = streams::read_all(
+        &mut rt.stdin(),
+        &mut bytes,
+        b"mix_report: standard input",
+        &mut rt.stderr(),
+    );
     let n = input.length;
     let failed = input.failed;
     if !failed {
-        print(&bytes[..n]);
+        print(&rt, &bytes[..n]);
     }
 }
 
-fn print(bytes: &[u8]) {
+fn print(rt: &HostRuntime, bytes: &[u8]) {
     let mut text = [0u8; mixture_text::TEXT];
     let n = mixture_text::report(bytes, &mut text);
-    streams::write_all(STDOUT_FILENO, &text[..n], b"mix_report: standard output");
+    streams::write_all(
+        &mut rt.stdout(),
+        &text[..n],
+        b"mix_report: standard output",
+        &mut rt.stderr(),
+    );
 }

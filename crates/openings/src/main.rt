@@ -2,21 +2,29 @@
 // standard output.
 #![tactic(auto)]
 
-use libc::{STDIN_FILENO, STDOUT_FILENO};
-
 // The buffer holds more than the longest plan, so that a longer input is never taken for one. A plan that could not be read has no chart.
-fn main() {
+fn main(rt: HostRuntime) {
     let mut bytes = io::buffer();
-    let input = streams::read_all(STDIN_FILENO, &mut bytes, b"openings: standard input");
+    let input = streams::read_all(
+        &mut rt.stdin(),
+        &mut bytes,
+        b"openings: standard input",
+        &mut rt.stderr(),
+    );
     let n = input.length;
     let failed = input.failed;
     if !failed {
-        print(&bytes[..n]);
+        print(&rt, &bytes[..n]);
     }
 }
 
-fn print(bytes: &[u8]) {
+fn print(rt: &HostRuntime, bytes: &[u8]) {
     let mut text = [0u8; chart::TEXT];
     let n = chart::chart(bytes, &mut text);
-    streams::write_all(STDOUT_FILENO, &text[..n], b"openings: standard output");
+    streams::write_all(
+        &mut rt.stdout(),
+        &text[..n],
+        b"openings: standard output",
+        &mut rt.stderr(),
+    );
 }

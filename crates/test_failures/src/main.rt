@@ -2,72 +2,85 @@
 // said on standard error meanwhile. A file stands in place of standard error.
 #![tactic(auto)]
 
-use libc::{STDERR_FILENO, STDOUT_FILENO};
+use std::fs;
+use std::fs::File;
+use std::io::{Read, Result};
 
-// A descriptor that nothing has opened.
-const CLOSED: i32 = 99;
-
-// An open takes the lowest number that is free: once standard error is closed, that is its number.
-fn main() {
-    libc::close(STDERR_FILENO);
-    if os::create(b"errors") != STDERR_FILENO {
-        io::write_all(STDOUT_FILENO, b"no file in place of standard error\n");
-        return;
-    }
-    let errors = os::open_read(b"errors");
-    reads(errors);
-    writes(errors);
-    os::unlink(b"errors");
+// What stands in place of standard error, and what reads it.
+#[derive(Drop)]
+struct Errors {
+    written: File,
+    read: File,
 }
 
-fn reads(errors: i32) {
-    read(b"nothing open", CLOSED, errors);
-    read(b"a folder", os::open_read(b"."), errors);
-    read(b"an empty input", os::open_read(b"/dev/null"), errors);
-    read(b"an endless input", os::open_read(b"/dev/zero"), errors);
+fn main(rt: HostRuntime) -> Result<()> {
+    let Ok(written) = File::create_new(&rt, "errors") else {
+        return println!(rt; "no file in place of standard error");
+    };
+    let read = File::open(&rt, "errors")?;
+    let mut errors = Errors { written, read };
+    reads(&rt, &mut errors)?;
+    writes(&rt, &mut errors)?;
+    fs::remove_file(&rt, "errors")
 }
 
-// What was written to a file is read back.
-fn writes(errors: i32) {
-    write(b"nothing open", CLOSED, errors);
-    write(b"a full disk", os::open_overwrite(b"/dev/full"), errors);
-    write(b"a sink", os::open_overwrite(b"/dev/null"), errors);
-    write(b"a file", os::create(b"report"), errors);
-    read(b"the file", os::open_read(b"report"), errors);
-    os::unlink(b"report");
+// What is open for writing alone is not open for reading.
+fn reads(rt: &HostRuntime, errors: &mut Errors) -> Result<()> {
+    read(rt, "nothing open", File::create(rt, "/dev/null")?, errors)?;
+    read(rt, "a folder", File::open(rt, ".")?, errors)?;
+    read(rt, "an empty input", File::open(rt, "/dev/null")?, errors)?;
+    read(rt, "an endless input", File::open(rt, "/dev/zero")?, errors)
 }
 
-fn read(what: &[u8], fd: i32, errors: i32) {
-    let mut bytes = io::buffer();
-    let input = streams::read_all(fd, &mut bytes, what);
-    io::write_all(STDOUT_FILENO, b"read ");
-    answer(what, !input.failed, input.length, errors);
+// What is open for reading alone is not open for writing. What was written to a file is read back.
+fn writes(rt: &HostRuntime, errors: &mut Errors) -> Result<()> {
+    write(rt, "nothing open", File::open(rt, "/dev/null")?, errors)?;
+    write(rt, "a full disk", File::create(rt, "/dev/full")?, errors)?;
+    write(rt, "a sink", File::create(rt, "/dev/null")?, errors)?;
+    write(rt, "a file", File::create_new(rt, "report")?, errors)?;
+    read(rt, "the file", File::open(rt, "report")?, errors)?;
+    fs::remove_file(rt, "report")
 }
 
-fn write(what: &[u8], fd: i32, errors: i32) {
-    let output = streams::write_all(fd, b"a report\n", what);
-    io::write_all(STDOUT_FILENO, b"write ");
-    answer(what, output.whole, output.length, errors);
+fn read(rt: &HostRuntime, what: &str, mut file: File, errors: &mut Errors) -> Result<()> {
+    let mut bytes = [0u8; 4096];
+    let input = streams::read_all(&mut file, &mut bytes, what.as_bytes(), &mut errors.written);
+    print!(rt; "read ")?;
+    answer(rt, what, !input.failed, input.length, errors)
 }
 
-fn answer(what: &[u8], well: bool, length: usize, errors: i32) {
-    io::write_all(STDOUT_FILENO, what);
+fn write(rt: &HostRuntime, what: &str, mut file: File, errors: &mut Errors) -> Result<()> {
+    let output = streams::write_all(
+        &mut file,
+        b"a report\n",
+        what.as_bytes(),
+        &mut errors.written,
+    );
+    print!(rt; "write ")?;
+    answer(rt, what, output.whole, output.length, errors)
+}
+
+fn answer(
+    rt: &HostRuntime,
+    what: &str,
+    well: bool,
+    length: usize,
+    errors: &mut Errors,
+) -> Result<()> {
     if well {
-        io::write_all(STDOUT_FILENO, b": went well, bytes ");
+        println!(rt; "{what}: went well, bytes {length}")?;
     } else {
-        io::write_all(STDOUT_FILENO, b": failed, bytes ");
+        println!(rt; "{what}: failed, bytes {length}")?;
     }
-    io::print_decimal(STDOUT_FILENO, length as u64);
-    io::write_all(STDOUT_FILENO, b"\n");
-    said(errors);
+    said(rt, errors)
 }
 
 // What standard error has more than before.
-fn said(errors: i32) {
-    let mut lines = io::buffer();
-    let n = io::read_full(errors, &mut lines);
-    if n != 0 {
-        io::write_all(STDOUT_FILENO, b"said ");
-        io::write_all(STDOUT_FILENO, &lines[..n]);
+fn said(rt: &HostRuntime, errors: &mut Errors) -> Result<()> {
+    let mut lines = String::new(rt.alloc());
+    errors.read.read_to_string(&mut lines)?;
+    if !lines.is_empty() {
+        print!(rt; "said {lines}")?;
     }
+    Ok(())
 }
