@@ -125,11 +125,12 @@ taken_back_more round F shape opening P Ps before mid after h back beyond =
       each =
           λ k l s m.
           let same : opening + shape.income - shape.income ≡ opening = omega arith in
-          rw (level_next shape.income opening (length Ps))
-          (rw same at (back k l s (omega arith))
+          rw same at (back k l s (omega arith))
           ∙ month_back_agree round shape.income F (rule_by shape) (rule_by shape) shape.rows (opening + shape.income) (shape_agrees shape (opening + shape.income)) P
           (values_in shape (opening + shape.income) mid) (values (month round shape.income F) (rule_by shape) (values_in shape (largest_level shape.income (opening + shape.income) (length Ps)) before) Ps)
-          (opening + shape.income) (omega arith) h.each k l s (omega arith));
+          (opening + shape.income) (omega arith) h.each k l s (omega arith)
+          ∙ ap (λ (top : ℕ). values (month round shape.income F) (rule_by shape) (values_in shape top before) (P ∷ Ps) k s)
+          (sym (level_next shape.income opening (length Ps)));
       beyond = λ k l i a b. beyond k l i (omega arith) b ∙ beyond_month round F shape opening P Ps before mid h k l i;
     }
 

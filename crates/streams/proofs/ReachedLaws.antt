@@ -14,8 +14,7 @@ use mir.Facts.{to_z-of_z}
 use mir.Syntax.{w64}
 use mir.Val.{hbits, to_z, of_z}
 use Rattle.io.specs.Counts.{IsPrefixLen, clamp_len}
-use Rattle.libc.specs.Io.{Moved}
-use Rattle.streams.specs.Reached.{Reached}
+use Rattle.streams.specs.Reached.{Moved, Reached}
 
 -- A call that was handed what is left of size bytes after n answered z, of which k bytes count.
 pub record Answered (size n k : ℕ) (z : ℤ) : Type 0 where

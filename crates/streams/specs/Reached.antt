@@ -1,7 +1,11 @@
 -- How far a stream was read or written, and what the system answered last.
-use Rattle.std.specs.Prelude.{ℕ, ◌≤◌, ◌<◌, ◌≡◌, T, ℤ}
+use Rattle.std.specs.Prelude.{ℕ, ◌≤◌, ◌<◌, ◌≡◌, T, ℤ, pos, negsuc}
 use Rattle.std.specs.Int.Signed.{non_neg}
-use Rattle.libc.specs.Io.{Moved}
+
+-- what a call that is handed n bytes may answer: -1, or how many bytes it moved, at most n
+abbrev pub Moved : ℕ → ℤ → Type 0
+Moved n (pos k) = k ≤ n
+Moved n (negsuc k) = k ≡ 0
 
 -- n of size bytes were moved, the system's last answer being z: -1, or how many it moved, which are among the n, and 0 where it was asked nothing. Reading
 -- and writing end short of the size only where the system moves nothing more, and where all was moved no call failed.

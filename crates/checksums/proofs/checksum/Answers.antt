@@ -24,7 +24,6 @@ pub loop-i-preserved : goal.loop-i-preserved
 loop-i-preserved c = (
   search rules,
   checksum-next _ _ _ _ c.loop-i-test.true c.more-sum.ensures ∙ c.loop-i.invariant.1,
-
 )
 
 pub returns : goal.returns

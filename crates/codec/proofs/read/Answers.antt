@@ -1,4 +1,5 @@
 -- `codec::read` meets its contract. Bytes that nothing refuses are decoded into the first part of the row, which the rest follows.
+use Prim.Native.Nat.{◌≤◌}
 use mathlib.Core.Path.{◌≡◌, sym, ap, ap₂, ◌∙◌}
 use mathlib.Core.List.{◌++◌}
 use native.Mathlib.Omega.{arith}
@@ -45,20 +46,30 @@ pub slice_bounds-decode-end : goal.slice_bounds-decode-end
 slice_bounds-decode-end c = omega (arith, count_is (goal.at.slice_bounds-decode-end c).After-row_length-count, (known (goal.at.slice_bounds-decode-end c).Else-wrong-ne0).row_fits)
 
 pub slice_bounds-decode-end-2 : goal.slice_bounds-decode-end-2
-slice_bounds-decode-end-2 c = sym (length-take-le _ _ (slice-relend-prefix-decode c))
+slice_bounds-decode-end-2 c =
+    sym
+    (length-take-le _ _
+    (omega (
+      arith,
+      count_is (goal.at.slice_bounds-decode-end-2 c).After-row_length-count,
+      (known (goal.at.slice_bounds-decode-end-2 c).Else-wrong-ne0).row_fits,
+    )))
 
 -- what is stored is the plan's row
-decoded : (c : After-decode) → c.decode.new.row ≡ row_of c.args.bytes.now
+decoded : (c : After-decode) → c.row_length-count.result ≤ length c.args.row.now → c.row_length-count.result ≡ row_length (head_of c.args.bytes.now) → c.decode.new.row ≡ row_of c.args.bytes.now
 unfolding row_of
-decoded c =
+decoded c fits count =
     c.decode.ensures
     ∙ ap
     (λ n. fields number_width n (drop head_bits (bits_of c.args.bytes.now)))
-    (length-take-le _ _ (slice-relend-prefix-decode c) ∙ (let count_is : c.row_length-count.result ≡ row_length (head_of c.args.bytes.now) = c.row_length-count.ensures ∙ ap row_length c.head_of-head.ensures in count_is))
+    (length-take-le _ _ fits ∙ count)
 
 pub returns : goal.returns
-returns c = record { answer = ap₂ read_as c.if-wrong-ne0.false c.head_of-head.ensures ∙ sym (head_answered _ _ (none (goal.at.returns c).Else-wrong-ne0)); memory = ap₂ (λ l n. l ++ drop n c.args.row.now) (decoded (goal.at.returns c).After-decode) (count_is (goal.at.returns c).After-row_length-count)
-          ∙ sym (filled _ _ _ _ (none (goal.at.returns c).Else-wrong-ne0)) }
+returns c = record {
+  answer = ap₂ read_as c.if-wrong-ne0.false c.head_of-head.ensures ∙ sym (head_answered _ _ (none (goal.at.returns c).Else-wrong-ne0));
+  memory = ap₂ (λ l n. l ++ drop n c.args.row.now) (decoded (goal.at.returns c).After-decode (omega (arith, count_is (goal.at.returns c).After-row_length-count, (known (goal.at.returns c).Else-wrong-ne0).row_fits)) (count_is (goal.at.returns c).After-row_length-count)) (count_is (goal.at.returns c).After-row_length-count)
+      ∙ sym (filled _ _ _ _ (none (goal.at.returns c).Else-wrong-ne0));
+}
 
 pub decode-requires : goal.decode-requires
 decode-requires c =

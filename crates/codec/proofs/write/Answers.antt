@@ -34,15 +34,17 @@ pub slice_bounds-encode-end : goal.slice_bounds-encode-end
 slice_bounds-encode-end c = omega (arith, c.byte_length-length.ensures, (known (goal.at.slice_bounds-encode-end c).Else-refusal-ne0).1)
 
 pub slice_bounds-encode-end-2 : goal.slice_bounds-encode-end-2
-slice_bounds-encode-end-2 c = sym (length-take-le _ _ (slice-relend-prefix-encode c))
+slice_bounds-encode-end-2 c = sym (length-take-le _ _ (omega (arith, c.byte_length-length.ensures, (known (goal.at.slice_bounds-encode-end-2 c).Else-refusal-ne0).1)))
 
 pub returns : goal.returns
-returns c = record { answer = ap₂ written_as c.if-refusal-ne0.false c.byte_length-length.ensures ∙ sym (length_answered _ _ (none (goal.at.returns c).Else-refusal-ne0)); memory = ap₂ (λ l n. l ++ drop n c.args.bytes.now) c.encode.ensures c.byte_length-length.ensures
-          ∙ sym (filled _ _ _ _ (none (goal.at.returns c).Else-refusal-ne0)) }
+returns c = record {
+  answer = ap₂ written_as c.if-refusal-ne0.false c.byte_length-length.ensures ∙ sym (length_answered _ _ (none (goal.at.returns c).Else-refusal-ne0));
+  memory = ap₂ (λ l n. l ++ drop n c.args.bytes.now) c.encode.ensures c.byte_length-length.ensures
+      ∙ sym (filled _ _ _ _ (none (goal.at.returns c).Else-refusal-ne0));
+}
 
 pub encode-requires : goal.encode-requires
 encode-requires c = (
   (known (goal.at.encode-requires c).Else-refusal-ne0).0,
-  length-take-le _ _ (slice-relend-prefix-encode c) ∙ c.byte_length-length.ensures,
-
+  length-take-le _ _ (omega (arith, c.byte_length-length.ensures, (known (goal.at.encode-requires c).Else-refusal-ne0).1)) ∙ c.byte_length-length.ensures,
 )

@@ -24,4 +24,10 @@ pub returns : goal.returns
 returns c = shifted c.args.x (held (goal.at.returns c).Start) c.requires.0 c.requires.1 c.if-exponent-lt1023.false
 
 pub overflow_cast-result : goal.overflow_cast-result
-overflow_cast-result c = omega (arith, returns-2 c, whole_fits c.args.x (held (goal.at.overflow_cast-result c).Start) c.requires.0 c.requires.1)
+overflow_cast-result c =
+    let h = held (goal.at.overflow_cast-result c).Start in
+    omega (
+      arith,
+      shifted c.args.x h c.requires.0 c.requires.1 c.if-exponent-lt1023.false,
+      whole_fits c.args.x h c.requires.0 c.requires.1,
+    )

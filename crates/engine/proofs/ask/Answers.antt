@@ -4,7 +4,6 @@ use mathlib.Core.Path.{◌≡◌, sym, ap, ◌∙◌}
 use mathlib.Core.Bool.{true, false}
 use Prim.Native.Nat.{◌*◌, ◌<◌}
 use native.Mathlib.Omega.{arith}
-use borrow.Author.Tests.{not-true, not-false}
 use lib.ListN.{length}
 use Rattle.model.specs.declared.Rounding.{Rounding}
 use Rattle.model.specs.declared.Rounding.TheVariants.{Down, Up}
@@ -52,7 +51,7 @@ none_allowed-requires c =
 no_bound : (c : Then-not-opening_allowed) (round : Rounding) → let a = c.args in 0 ≡ bound round (plan_of a.ask.head a.row.now) a.ask.question
 no_bound c round =
     let a = c.args in
-    let forbids : opening_allowed a.ask.question a.ask.head.opening ≡ false = sym c.opening_allowed.ensures ∙ not-true _ c.if-not-opening_allowed.true in
+    let forbids : opening_allowed a.ask.question a.ask.head.opening ≡ false = sym c.opening_allowed.ensures ∙ c.if-not-opening_allowed.true in
     bound_none round a.ask.head a.row.now a.ask.question forbids
 
 pub returns-then-not-opening_allowed : goal.returns-then-not-opening_allowed
@@ -84,13 +83,13 @@ needed_is c =
 
 rows-some : (c : After-shape_of-shape) → 0 < c.shape_of-shape.result.rows
 rows-some c =
-    let q = c.args.ask.question in
+    let a = c.args in
+    let q = a.ask.question in
+    let known = asked a.ask.head a.row.now 10 (outside q) (workspace_needed a.ask) (length a.workspace.now) (omega arith) (sym c.ask_refusal-refusal.ensures ∙ c.if-refusal-ne0.false) in
     omega (
       arith,
       ap (λ s. s.rows) c.shape_of-shape.ensures ∙ shape_rows q c.row_levels.result _,
-      rows_few q (let known : let a = c.args in Asked a.ask.head a.row.now (outside a.ask.question) (workspace_needed a.ask) (length a.workspace.now) = let a = c.args in
-    asked a.ask.head a.row.now 10 (outside a.ask.question) (workspace_needed a.ask) (length a.workspace.now) (omega arith)
-    (sym c.ask_refusal-refusal.ensures ∙ c.if-refusal-ne0.false) in known).inside,
+      rows_few q known.inside,
     )
 
 -- the value of the work, in either rounding, is that of the question
@@ -99,11 +98,9 @@ bound_of c round =
     let a = c.args in
     let h = a.ask.head in
     let width = c.row_levels in
-    let known = (let known : let a = c.args in Asked a.ask.head a.row.now (outside a.ask.question) (workspace_needed a.ask) (length a.workspace.now) = let a = c.args in
-    asked a.ask.head a.row.now 10 (outside a.ask.question) (workspace_needed a.ask) (length a.workspace.now) (omega arith)
-    (sym c.ask_refusal-refusal.ensures ∙ c.if-refusal-ne0.false) in known) in
+    let known = asked h a.row.now 10 (outside a.ask.question) (workspace_needed a.ask) (length a.workspace.now) (omega arith) (sym c.ask_refusal-refusal.ensures ∙ c.if-refusal-ne0.false) in
     let row_is = (facts h a.row.now known.accepted).row_is in
-    let allows : opening_allowed a.ask.question h.opening ≡ true = sym c.opening_allowed.ensures ∙ not-false _ c.if-not-opening_allowed.false in
+    let allows : opening_allowed a.ask.question h.opening ≡ true = sym c.opening_allowed.ensures ∙ c.if-not-opening_allowed.false in
     ap (λ s. opening_value round (plan_of h a.row.now) h.months s Placed) c.shape_of-shape.ensures
     ∙ bound_is round h a.row.now row_is a.ask.question known.inside allows width.result width.ensures
 

@@ -1,19 +1,18 @@
 -- `ask_refusal` meets its contract: the mixture's own checks, then those of what is asked.
 use mathlib.Core.Path.{◌≡◌, sym, ap, ◌∙◌}
+use native.Mathlib.Omega.{arith}
 use mathlib.Core.Bool.{Bool, cond}
 use Prim.Native.Nat.{ℕ}
 use lib.Dec.{ltb}
-use Rattle.model.specs.Limits.{max_plans}
 use borrow.Author.Tests.{lt-ltb, le-ltb}
 use Rattle.mixture_plans.specs.Refusal.{mixture_ask_refusal}
-use Rattle.mixture_plans.proofs.CheckLaws.{mapped_length, MixtureFacts, mixture_facts, ask_refused, ask_outside, ask_room, head_accepted}
+use Rattle.mixture_plans.proofs.CheckLaws.{MixtureFacts, mixture_facts, ask_refused, ask_outside, ask_room, head_accepted}
 use Rattle.mixture_plans.proofs.ask_refusal.Goals as goal
 use Rattle.mixture_plans.proofs.ask_refusal.Goals.{After-workspace_needed, Else-refused-ne0}
 
 facts : (c : Else-refused-ne0) → MixtureFacts c.args.mixture c.args.row.now
 facts c =
-    let good = c.good.0.1.1.1 in
-    mixture_facts _ _ (mapped_length _ c.args.mixture.heads max_plans good.0.1.0.1) (mapped_length _ c.args.mixture.weights max_plans good.1.0.1.0.1) (sym c.mixture_refusal-refused.ensures ∙ c.if-refused-ne0.false)
+    mixture_facts _ _ (omega arith) (omega arith) (sym c.mixture_refusal-refused.ensures ∙ c.if-refused-ne0.false)
 
 pub returns-then-refused-ne0 : goal.returns-then-refused-ne0
 returns-then-refused-ne0 c = ask_refused _ _ _ _ _ c.mixture_refusal-refused.ensures c.if-refused-ne0.true

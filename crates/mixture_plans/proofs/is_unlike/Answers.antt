@@ -1,7 +1,6 @@
 use Prim.Native.Nat.{◌+◌, ◌-◌, ◌≤◌}
 use native.Mathlib.Omega.{arith}
 use lib.ListN.{length, get_or}
-use borrow.Author.Tests.{not-true, not-false}
 use Rattle.model.proofs.Facts.{head_facts, accepted_head}
 use Rattle.model.specs.Plan.{row_length}
 use Rattle.mixture_plans.proofs.AlikeLaws.{first_next, matching_start, matching_done, matching_head, matching_inside, matching_numbers, matching_more}
@@ -9,8 +8,8 @@ use Rattle.mixture_plans.proofs.is_unlike.Invariants.{no_head}
 use Rattle.mixture_plans.proofs.is_unlike.Goals as goal
 use Rattle.mixture_plans.proofs.is_unlike.Goals.{Else-not-same_head, Start}
 
-enough : (c : Start) → s.args.mixture.count ≤ length s.args.mixture.heads
-enough c = omega (arith, s.requires.0.fits, s.requires.0.heads_long)
+enough : (c : Start) → c.args.mixture.count ≤ length c.args.mixture.heads
+enough c = omega (arith, c.requires.counted.fits, c.requires.counted.heads_long)
 
 pub bounds-heads-0 : goal.bounds-heads-0
 bounds-heads-0 c = omega arith
@@ -36,13 +35,13 @@ bounds-heads-i c = omega (arith, c.requires.counted.fits, c.loop-i-test.true)
 pub returns-then-not-same_head : goal.returns-then-not-same_head
 returns-then-not-same_head c =
     matching_head _ _ _ no_head (enough (goal.at.returns-then-not-same_head c).Start) c.requires.counted.some c.requires.row_value _ _ c.loop-i.invariant c.loop-i-test.true
-    _ c.same_head.ensures.1 (not-true _ c.if-not-same_head.true)
+    _ c.same_head.ensures.1 c.if-not-same_head.true
 
 -- then the numbers that are compared lie in the row, and so does the plan's whole row
 inside : (c : Else-not-same_head) → c.loop-i.start + row_length (get_or c.args.mixture.heads 0 no_head) ≤ length c.args.row.now
 inside c =
-    matching_inside _ _ _ no_head (let enough : s.args.mixture.count ≤ length s.args.mixture.heads = omega (arith, s.requires.0.fits, s.requires.0.heads_long) in enough) c.requires.counted.some c.requires.row_value _ _ c.loop-i.invariant c.loop-i-test.true
-    (c.same_head.ensures.0 (not-false _ c.if-not-same_head.false))
+    matching_inside _ _ _ no_head (omega (arith, c.requires.counted.fits, c.requires.counted.heads_long)) c.requires.counted.some c.requires.row_value _ _ c.loop-i.invariant c.loop-i-test.true
+    (c.same_head.ensures.0 c.if-not-same_head.false)
 
 pub overflow_add-start : goal.overflow_add-start
 overflow_add-start c = omega (arith, inside (goal.at.overflow_add-start c).Else-not-same_head)
@@ -53,7 +52,7 @@ same_numbers-requires c = (omega (arith, inside (goal.at.same_numbers-requires c
 pub returns-then-not-same_numbers : goal.returns-then-not-same_numbers
 returns-then-not-same_numbers c =
     matching_numbers _ _ _ no_head (enough (goal.at.returns-then-not-same_numbers c).Start) c.requires.counted.some c.requires.row_value _ _ c.loop-i.invariant c.loop-i-test.true
-    (c.same_head.ensures.0 (not-false _ c.if-not-same_head.false)) _ c.same_numbers.ensures (not-true _ c.if-not-same_numbers.true)
+    (c.same_head.ensures.0 c.if-not-same_head.false) _ c.same_numbers.ensures c.if-not-same_numbers.true
 
 pub overflow_add-start-in-loop-i : goal.overflow_add-start-in-loop-i
 overflow_add-start-in-loop-i c = omega (arith, inside (goal.at.overflow_add-start-in-loop-i c).Else-not-same_head, c.row_length-step.ensures)
@@ -62,7 +61,7 @@ pub loop-i-preserved : goal.loop-i-preserved
 loop-i-preserved c =
     let step = c.row_length-step.ensures in
     matching_more _ _ _ no_head (enough (goal.at.loop-i-preserved c).Start) c.requires.counted.some c.requires.row_value _ _ c.loop-i.invariant c.loop-i-test.true
-    (c.same_head.ensures.0 (not-false _ c.if-not-same_head.false)) _ c.same_numbers.ensures (not-false _ c.if-not-same_numbers.false) _ step
+    (c.same_head.ensures.0 c.if-not-same_head.false) _ c.same_numbers.ensures c.if-not-same_numbers.false _ step
 
 pub returns : goal.returns
 returns c =

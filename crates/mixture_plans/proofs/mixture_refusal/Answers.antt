@@ -1,17 +1,16 @@
 -- `mixture_refusal` meets its contract, check by check.
 use mathlib.Core.Path.{◌≡◌, sym, ap, ◌∙◌}
+use native.Mathlib.Omega.{arith}
 use mathlib.Core.Bool.{Bool, cond}
-use Rattle.model.specs.Limits.{max_plans}
 use Rattle.mixture_plans.specs.Refusal.{Counted, mixture_refusal}
-use Rattle.mixture_plans.proofs.CheckLaws.{mapped_length, counted, by_count, by_each, by_unlike, by_weights}
+use Rattle.mixture_plans.proofs.CheckLaws.{counted, by_count, by_each, by_unlike, by_weights}
 use Rattle.mixture_plans.proofs.mixture_refusal.Goals as goal
 use Rattle.mixture_plans.proofs.mixture_refusal.Goals.{After-weights_add, Else-count_is_outside}
 
 -- the count is within the limits
 known : (c : Else-count_is_outside) → Counted c.args.mixture
 known c =
-    let good = c.good.0.1.1.1 in
-    counted _ (sym c.count_is_outside.ensures ∙ c.if-count_is_outside.false) (mapped_length _ c.args.mixture.heads max_plans good.0.1.0.1) (mapped_length _ c.args.mixture.weights max_plans good.1.0.1.0.1)
+    counted _ (sym c.count_is_outside.ensures ∙ c.if-count_is_outside.false) (omega arith) (omega arith)
 
 pub returns-then-count_is_outside : goal.returns-then-count_is_outside
 returns-then-count_is_outside c = sym (by_count _ _ (sym c.count_is_outside.ensures ∙ c.if-count_is_outside.true))
@@ -37,8 +36,8 @@ weights_add-requires c = known (goal.at.weights_add-requires c).Else-count_is_ou
 -- the weights decide
 summed : (c : After-weights_add) → cond c.weights_add.result 0 18 ≡ mixture_refusal c.args.mixture c.args.row.now
 summed c =
-    by_weights _ _ (sym c.count_is_outside.ensures ∙ c.if-count_is_outside.false) (let known : Counted c.args.mixture = let good = c.good.0.1.1.1 in
-    counted _ (sym c.count_is_outside.ensures ∙ c.if-count_is_outside.false) (mapped_length _ c.args.mixture.heads max_plans good.0.1.0.1) (mapped_length _ c.args.mixture.weights max_plans good.1.0.1.0.1) in known) (sym c.each_refusal-of_plans.ensures ∙ c.if-of_plans-ne0.false) _
+    let passed = sym c.count_is_outside.ensures ∙ c.if-count_is_outside.false in
+    by_weights _ _ passed (counted _ passed (omega arith) (omega arith)) (sym c.each_refusal-of_plans.ensures ∙ c.if-of_plans-ne0.false) _
     c.is_unlike.ensures c.if-is_unlike.false _ c.weights_add.ensures
 
 pub returns-then-weights_add : goal.returns-then-weights_add

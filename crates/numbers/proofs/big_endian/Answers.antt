@@ -20,7 +20,7 @@ pub loop-k-preserved : goal.loop-k-preserved
 loop-k-preserved c = (search rules, reading_more _ _ _ _ c.loop-k.invariant.1 _ c.index.ensures (omega arith) (next (goal.at.loop-k-preserved c).After-index))
 
 pub returns : goal.returns
-returns c = 
+returns c =
     let whole : c.loop-k.k ≡ c.args.count = omega arith in
     let read = c.loop-k.invariant.1 in
     record { number = rw (← whole) read.so_far; fits = rw (← whole) read.fits }

@@ -15,7 +15,7 @@ known c = taken c.args.ask c.args.row.now (sym c.refusal-wrong.ensures ∙ c.if-
 
 -- the row has the chances and the weights
 within : (c : Else-wrong-ne0) → let a = c.args in a.ask.head.months + a.ask.head.sizes ≤ length a.row.now
-within c = omega (arith, (facts _ _ (let known : Taken c.args.ask c.args.row.now = taken c.args.ask c.args.row.now (sym c.refusal-wrong.ensures ∙ c.if-wrong-ne0.false) in known).accepted).row_is)
+within c = omega (arith, (facts _ _ (known c).accepted).row_is)
 
 pub returns-then-wrong-ne0 : goal.returns-then-wrong-ne0
 returns-then-wrong-ne0 c =
@@ -26,25 +26,27 @@ overflow_add-end c = omega (arith, within (goal.at.overflow_add-end c).Else-wron
 
 pub slice_bounds-chances-end : goal.slice_bounds-chances-end
 slice_bounds-chances-end c =
-    let a = (start (answered c)).args in
-    sym (length-take-le a.ask.head.months a.row.now (omega (arith, within (answered c))))
+    let a = c.args in
+    sym (length-take-le a.ask.head.months a.row.now (omega (arith, within (goal.at.slice_bounds-chances-end c).Else-wrong-ne0)))
 
 pub offset_bounds-row-months : goal.offset_bounds-row-months
-offset_bounds-row-months c = omega (arith, (known (answered c)).months_few)
+offset_bounds-row-months c = omega (arith, (known (goal.at.offset_bounds-row-months c).Else-wrong-ne0).months_few)
 
 pub slice_bounds-severity-end : goal.slice_bounds-severity-end
-slice_bounds-severity-end c = omega (arith, within (answered c))
+slice_bounds-severity-end c = omega (arith, within (goal.at.slice_bounds-severity-end c).Else-wrong-ne0)
 
 pub opening_value-requires : goal.opening_value-requires
-opening_value-requires c = terms_lent _ _ (known (answered c))
+opening_value-requires c = terms_lent _ _ (known (goal.at.opening_value-requires c).Else-wrong-ne0)
 
 pub opening_value-requires-2 : goal.opening_value-requires-2
-opening_value-requires-2 c = terms_lent _ _ (known (answered c))
+opening_value-requires-2 c = terms_lent _ _ (known (goal.at.opening_value-requires-2 c).Else-wrong-ne0)
 
 pub returns : goal.returns
 returns c =
-    let else1 = answered c in
-    let a = (start else1).args in
-    let t = known else1 in let both = clauses a.ask a.row.now _
-    (answered_is a.ask a.row.now c.opening_value.result c.opening_value-2.result (sym else1.before.refusal.ensures ∙ else1.if1.left)
-    (bound_lent Down a.ask a.row.now t _ c.opening_value.ensures) (bound_lent Up a.ask a.row.now t _ c.opening_value-2.ensures)) in record { answered = both.0; same = both.1.0; encloses = both.1.1 }
+    let a = c.args in
+    let t = known (goal.at.returns c).Else-wrong-ne0 in
+    let both =
+    clauses a.ask a.row.now _
+    (answered_is a.ask a.row.now c.opening_value.result c.opening_value-2.result (sym c.refusal-wrong.ensures ∙ c.if-wrong-ne0.false)
+    (bound_lent Down a.ask a.row.now t _ c.opening_value.ensures) (bound_lent Up a.ask a.row.now t _ c.opening_value-2.ensures)) in
+    record { answered = both.0; same = both.1.0; encloses = both.1.1 }

@@ -74,12 +74,15 @@ returns-then-sum_of c = rw (weighed (goal.at.returns-then-sum_of c).After-sum_of
 -- the weights add up, and the tail decides
 tail_left : (c : After-shared_slice_known-2-1) → plan_refusal c.args.head c.args.row.now ≡ cond (survivable c.args.head c.args.row.now) 9 0
 unfolding S
-tail_left c = rw ((let weighed : plan_refusal c.args.head c.args.row.now ≡ cond (not (eqb c.sum_of.result S)) 8 (cond (survivable c.args.head c.args.row.now) 9 0) = by_weights _ _
-    (let head_ok : HeadAccepted c.args.head = sym c.head_refusal-refused.ensures ∙ c.if-refused-ne0.false in head_ok)
-    (let row_is : length c.args.row.now ≡ row_length c.args.head = c.if-row-row_length.false ∙ c.row_length.ensures in row_is)
-    (sym c.some_above.ensures ∙ c.if-some_above.false)
-    _
-    (let summed : c.sum_of.result ≡ total (drop c.args.head.months c.args.row.now) = c.sum_of.ensures ∙ ap total (take_all _ _ (le_of_eq (length-drop c.args.head.months c.args.row.now))) in summed) in weighed), eq-eqb _ _ c.if-sum_of.false)
+tail_left c = rw (
+  (let weighed : plan_refusal c.args.head c.args.row.now ≡ cond (not (eqb c.sum_of.result S)) 8 (cond (survivable c.args.head c.args.row.now) 9 0) = by_weights _ _
+      (let head_ok : HeadAccepted c.args.head = sym c.head_refusal-refused.ensures ∙ c.if-refused-ne0.false in head_ok)
+      (let row_is : length c.args.row.now ≡ row_length c.args.head = c.if-row-row_length.false ∙ c.row_length.ensures in row_is)
+      (sym c.some_above.ensures ∙ c.if-some_above.false)
+      _
+      (let summed : c.sum_of.result ≡ total (drop c.args.head.months c.args.row.now) = c.sum_of.ensures ∙ ap total (take_all _ _ (le_of_eq (length-drop c.args.head.months c.args.row.now))) in summed) in weighed),
+  eq-eqb _ _ c.if-sum_of.false,
+)
 
 pub largest_level-requires : goal.largest_level-requires
 largest_level-requires c = omega (arith, (limits (goal.at.largest_level-requires c).Else-refused-ne0).span_fits)
@@ -88,12 +91,19 @@ largest_level-requires c = omega (arith, (limits (goal.at.largest_level-requires
 level-left : (c : After-largest_level) → plan_refusal c.args.head c.args.row.now ≡ cond (ltb (c.args.head.sizes + 1) c.largest_level.result) 9 0
 unfolding S
 level-left c =
-    rw ((let tail_left : plan_refusal c.args.head c.args.row.now ≡ cond (survivable c.args.head c.args.row.now) 9 0 = rw ((let weighed : plan_refusal c.args.head c.args.row.now ≡ cond (not (eqb c.sum_of.result S)) 8 (cond (survivable c.args.head c.args.row.now) 9 0) = by_weights _ _
-    (let head_ok : HeadAccepted c.args.head = sym c.head_refusal-refused.ensures ∙ c.if-refused-ne0.false in head_ok)
-    (let row_is : length c.args.row.now ≡ row_length c.args.head = c.if-row-row_length.false ∙ c.row_length.ensures in row_is)
-    (sym c.some_above.ensures ∙ c.if-some_above.false)
-    _
-    (let summed : c.sum_of.result ≡ total (drop c.args.head.months c.args.row.now) = c.sum_of.ensures ∙ ap total (take_all _ _ (le_of_eq (length-drop c.args.head.months c.args.row.now))) in summed) in weighed), eq-eqb _ _ c.if-sum_of.false) in tail_left), lt-ltb _ _ c.if-row-months-gt0.true, ← c.largest_level.ensures)
+    rw (
+      (let tail_left : plan_refusal c.args.head c.args.row.now ≡ cond (survivable c.args.head c.args.row.now) 9 0 = rw (
+        (let weighed : plan_refusal c.args.head c.args.row.now ≡ cond (not (eqb c.sum_of.result S)) 8 (cond (survivable c.args.head c.args.row.now) 9 0) = by_weights _ _
+            (let head_ok : HeadAccepted c.args.head = sym c.head_refusal-refused.ensures ∙ c.if-refused-ne0.false in head_ok)
+            (let row_is : length c.args.row.now ≡ row_length c.args.head = c.if-row-row_length.false ∙ c.row_length.ensures in row_is)
+            (sym c.some_above.ensures ∙ c.if-some_above.false)
+            _
+            (let summed : c.sum_of.result ≡ total (drop c.args.head.months c.args.row.now) = c.sum_of.ensures ∙ ap total (take_all _ _ (le_of_eq (length-drop c.args.head.months c.args.row.now))) in summed) in weighed),
+        eq-eqb _ _ c.if-sum_of.false,
+      ) in tail_left),
+      lt-ltb _ _ c.if-row-months-gt0.true,
+      ← c.largest_level.ensures,
+    )
 
 pub returns-then-sizes-largest_level : goal.returns-then-sizes-largest_level
 returns-then-sizes-largest_level c = rw (level-left (goal.at.returns-then-sizes-largest_level c).After-largest_level, lt-ltb (c.args.head.sizes + 1) _ c.if-sizes-largest_level.true)

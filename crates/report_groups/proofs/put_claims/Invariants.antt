@@ -5,7 +5,7 @@ use Rattle.report_groups.specs.Groups.{claims_at}
 use Rattle.report_groups.proofs.put_claims.Given as goal
 
 abbrev pub invariant-loop-k : goal.invariant-loop-k
-invariant-loop-k l = Appending (claims_at l.lower l.upper) (l.months + 1) l.initial.text l.at l.end l.k k
+invariant-loop-k l = Appending (claims_at l.lower l.upper) (l.months + 1) l.initial.text l.at l.end l.k
 
 abbrev pub decreases-loop-k : goal.decreases-loop-k
-decreases-loop-k l = l.months + 1 - k
+decreases-loop-k l = l.months + 1 - l.k

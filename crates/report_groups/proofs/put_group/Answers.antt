@@ -6,8 +6,8 @@ use Rattle.report_groups.proofs.GroupLaws.{range_fits}
 use Rattle.report_groups.proofs.put_group.Goals as goal
 use Rattle.report_groups.proofs.put_group.Goals.{Start}
 
-head_ok : (c : Start) → HeadAccepted s.args.head
-head_ok c = accepted_head _ _ s.requires.0.accepted
+head_ok : (c : Start) → HeadAccepted c.args.head
+head_ok c = accepted_head _ _ c.requires.answerable.accepted
 
 pub line_range-range-requires : goal.line_range-range-requires
 line_range-range-requires c = head_ok (goal.at.line_range-range-requires c).Start

@@ -7,5 +7,5 @@ pub returns : goal.returns
 returns c =
     let call = c.ruin_of-bounds.ensures in
     let lines = c.args.lines in
-    let low = ap (λ b. b.lower) call.0 in
-    let high = ap (λ b. b.upper) call.0 in record { written = rw (← low, ← high) c.put_numbered-end.ensures; summed = (ap (λ x. lines.lower + x) low, ap (λ x. lines.upper + x) high); cleared = call.1 }
+    let low = ap (λ b. b.lower) call.answered in
+    let high = ap (λ b. b.upper) call.answered in record { written = rw (← low, ← high) c.put_numbered-end.ensures; summed = (ap (λ x. lines.lower + x) low, ap (λ x. lines.upper + x) high); cleared = call.cleared }

@@ -11,13 +11,13 @@ use Rattle.report_lines.specs.Asking.{Answerable, question_needs}
 use Rattle.report_lines.proofs.AskingLaws.{cleared_all, cleared_long, answerable_still, ruined_clears}
 use Rattle.ruin_lines.proofs.RuinLaws.{ruining_start, ruining_turn, ruining_room, ruins_small, ruins_done}
 use Rattle.ruin_lines.proofs.put_ruins.Goals as goal
-use Rattle.ruin_lines.proofs.put_ruins.Goals.{After-put_ruin-arg-in-loop-i-1, At-loop-i}
+use Rattle.ruin_lines.proofs.put_ruins.Goals.{In-loop-i, At-loop-i}
 
 pub loop-i-init : goal.loop-i-init
 loop-i-init c = (ruining_start _ _ _ _ _ _ (search rules), refl)
 
 -- the month of a turn is one of the plan's
-month_inside : (c : After-put_ruin-arg-in-loop-i-1) → month_outside c.args.head (c.loop-i.i + 1) ≡ false
+month_inside : (c : In-loop-i) → month_outside c.args.head (c.loop-i.i + 1) ≡ false
 month_inside c = inside_month _ _ (omega arith) (omega (arith, c.loop-i-test.true, c.loop-i.invariant.1))
 
 answerable : (c : At-loop-i) → Answerable c.args.head c.args.row.now c.loop-i.workspace
@@ -26,13 +26,13 @@ answerable c = answerable_still c.requires.answerable c.loop-i.invariant.0.left
 pub put_ruin-lines-requires : goal.put_ruin-lines-requires
 put_ruin-lines-requires c =
     let so_far = c.loop-i.invariant.0 in
-    let small = ruins_small c.args.head c.args.row.now c.requires.answerable.accepted c.loop-i.i so_far.text_so_far.turns in record { answerable = answerable (goal.at.put_ruin-lines-requires c).At-loop-i; month_value = month_inside (goal.at.put_ruin-lines-requires c).After-put_ruin-arg-in-loop-i-1; line_room_in_bounds = (ruining_room so_far c.requires.line_room_in_bounds, rw so_far.lower_so_far small.0, rw so_far.upper_so_far small.1) }
+    let small = ruins_small c.args.head c.args.row.now c.requires.answerable.accepted c.loop-i.i so_far.text_so_far.turns in record { answerable = answerable (goal.at.put_ruin-lines-requires c).At-loop-i; month_value = month_inside (goal.at.put_ruin-lines-requires c).In-loop-i; line_room_in_bounds = (ruining_room so_far c.requires.line_room_in_bounds, rw so_far.lower_so_far small.0, rw so_far.upper_so_far small.1) }
 
 pub loop-i-preserved : goal.loop-i-preserved
 loop-i-preserved c =
     let call = c.put_ruin-lines in (
       ruining_turn c.loop-i.invariant.0 (omega (arith, c.loop-i-test.true, c.loop-i.invariant.1)) call.auto.text call.ensures.written call.ensures.summed
-          (ruined_clears (answerable (goal.at.loop-i-preserved c).At-loop-i) (c.loop-i.i + 1) (month_inside (goal.at.loop-i-preserved c).After-put_ruin-arg-in-loop-i-1) call.ensures.cleared),
+          (ruined_clears (answerable (goal.at.loop-i-preserved c).At-loop-i) (c.loop-i.i + 1) (month_inside (goal.at.loop-i-preserved c).In-loop-i) call.ensures.cleared),
       c.loop-i.invariant.1,
     )
 

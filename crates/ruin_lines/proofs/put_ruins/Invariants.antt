@@ -8,7 +8,7 @@ use Rattle.ruin_lines.proofs.RuinLaws.{Ruining}
 use Rattle.ruin_lines.proofs.put_ruins.Given as goal
 
 abbrev pub invariant-loop-i : goal.invariant-loop-i
-invariant-loop-i l = Ruining (plan_of l.head l.row) (question_needs l.head Survive) l.head.months l.initial.text l.at l.initial.workspace l.workspace l.lines l.i i × (l.months ≡ l.head.months)
+invariant-loop-i l = Ruining (plan_of l.head l.row) (question_needs l.head Survive) l.head.months l.initial.text l.at l.initial.workspace l.workspace l.lines l.i × (l.months ≡ l.head.months)
 
 abbrev pub decreases-loop-i : goal.decreases-loop-i
-decreases-loop-i l = l.months - i
+decreases-loop-i l = l.months - l.i

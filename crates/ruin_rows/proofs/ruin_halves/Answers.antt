@@ -25,8 +25,8 @@ second-zeros : (c : After-fill) → drop c.args.half c.fill.new.part ≡ replica
 second-zeros c = zeros_second c.fill.new.part _ c.args.half c.fill.ensures c.requires.halves_len.0
 
 -- what a row needs of a half that is all 0
-needed : (c : Start) (part : List ℕ) → part ≡ replicate s.args.half 0 → (s.args.top < length part) × Parts part × (s.args.top + s.args.income < 2 ^ 64)
-needed c part e = rw e (rw length-replicate s.requires.0.1, parts_replicate s.args.half 0 zero-le, s.requires.0.2)
+needed : (c : Start) (part : List ℕ) → part ≡ replicate c.args.half 0 → (c.args.top < length part) × Parts part × (c.args.top + c.args.income < 2 ^ 64)
+needed c part e = rw e (rw length-replicate c.requires.halves_len.1, parts_replicate c.args.half 0 zero-le, c.requires.halves_len.2)
 
 pub ruin_row-requires : goal.ruin_row-requires
 ruin_row-requires c =
@@ -46,5 +46,9 @@ returns c =
     let last = c.ruin_row-2 in
     let first = c.ruin_row in
     let xs = c.fill.new.part in
-    let half = c.args.half in record { lower = rw (first_half xs first.new.row last.new.row half (whole (goal.at.returns c).After-fill) first.auto.row) (rw (first-zeros (goal.at.returns c).After-fill) at first.ensures.rewritten); upper = rw (second_half xs first.new.row last.new.row half (whole (goal.at.returns c).After-fill) first.auto.row)
-            (rw (second (goal.at.returns c).After-ruin_row, second-zeros (goal.at.returns c).After-fill) at last.ensures.rewritten); parts = parts_both xs first.new.row last.new.row half (whole (goal.at.returns c).After-fill) first.auto.row first.ensures.parts last.ensures.parts }
+    let half = c.args.half in record {
+      lower = rw (first_half xs first.new.row last.new.row half (whole (goal.at.returns c).After-fill) first.auto.row) (rw (first-zeros (goal.at.returns c).After-fill) at first.ensures.rewritten);
+      upper = rw (second_half xs first.new.row last.new.row half (whole (goal.at.returns c).After-fill) first.auto.row)
+          (rw (second (goal.at.returns c).After-ruin_row, second-zeros (goal.at.returns c).After-fill) at last.ensures.rewritten);
+      parts = parts_both xs first.new.row last.new.row half (whole (goal.at.returns c).After-fill) first.auto.row first.ensures.parts last.ensures.parts;
+    }

@@ -17,18 +17,18 @@ last-decides : (a b c : Bool) → a ≡ true → b ≡ true → c ≡ (a && b &&
 last-decides a b c e f = rw (e, f)
 
 pub returns-then-not-is_finite : goal.returns-then-not-is_finite
-returns-then-not-is_finite c = first-fails (finite c.args.first) _ _ (sym c.is_finite.ensures ∙ not-true _ c.if-not-is_finite.true)
+returns-then-not-is_finite c = first-fails (finite c.args.first) _ _ (sym c.is_finite.ensures ∙ c.if-not-is_finite.true)
 
 first-passed : (c : After-is_finite-2) → finite c.args.first ≡ true
-first-passed c = sym c.is_finite.ensures ∙ not-false _ c.if-not-is_finite.false
+first-passed c = sym c.is_finite.ensures ∙ c.if-not-is_finite.false
 
 pub returns-then-not-is_finite-2 : goal.returns-then-not-is_finite-2
 returns-then-not-is_finite-2 c =
     let a = c.args in
-    second-fails (finite a.first) (finite a.step) (finite a.alpha) (first-passed (goal.at.returns-then-not-is_finite-2 c).After-is_finite-2) (sym c.is_finite-2.ensures ∙ not-true _ c.if-not-is_finite-2.true)
+    second-fails (finite a.first) (finite a.step) (finite a.alpha) (first-passed (goal.at.returns-then-not-is_finite-2 c).After-is_finite-2) (sym c.is_finite-2.ensures ∙ c.if-not-is_finite-2.true)
 
 pub returns : goal.returns
 returns c =
     let a = c.args in
     c.is_finite-3.ensures
-    ∙ last-decides (finite a.first) (finite a.step) (finite a.alpha) (first-passed (goal.at.returns c).After-is_finite-2) (sym c.is_finite-2.ensures ∙ not-false _ c.if-not-is_finite-2.false)
+    ∙ last-decides (finite a.first) (finite a.step) (finite a.alpha) (first-passed (goal.at.returns c).After-is_finite-2) (sym c.is_finite-2.ensures ∙ c.if-not-is_finite-2.false)

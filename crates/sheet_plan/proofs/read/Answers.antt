@@ -17,7 +17,7 @@ use Rattle.sheet_checks.specs.Refusal.{sheet_checks, sheet_refusal}
 use Rattle.sheet_plan.specs.Answers.{plan_head, sheet_answer, sheet_row_after}
 use Rattle.sheet_checks.proofs.CheckLaws.{SheetFacts, sheet_facts, refused_early, refused_short, accepted}
 use Rattle.sheet_plan.proofs.read.Goals as goal
-use Rattle.sheet_plan.proofs.read.Goals.{After-head_of-head, After-put_row-arg-1, After-row_length-count, Else-refused-ne0}
+use Rattle.sheet_plan.proofs.read.Goals.{After-head_of-head, After-row_length-count, Else-refused-ne0}
 
 -- what a refusal with a number answers and leaves
 refused :
@@ -33,14 +33,17 @@ answer r n e = λ i. record { refusal = e.0 i; head = e.1 i }
 
 pub returns-then-refused-ne0 : goal.returns-then-refused-ne0
 returns-then-refused-ne0 c =
-    let is = refused_early c.args.bytes.now (row_length (plan_head c.args.bytes.now)) (length c.args.row.now) (λ z. c.if-refused-ne0.true (c.refusal-refused.ensures ∙ z)) in
-    let both = refused c.args.bytes.now c.args.row.now c.refusal-refused.result (is ∙ sym c.refusal-refused.ensures) c.if-refused-ne0.true in record { answer = answer _ _ c.no_plan.ensures ∙ both.0; memory = both.1 }
+    let bytes = c.args.bytes.now in
+    let row = c.args.row.now in
+    let is = refused_early bytes (row_length (plan_head bytes)) (length row) (λ z. c.if-refused-ne0.true (c.refusal-refused.ensures ∙ z)) in
+    let both = refused bytes row c.refusal-refused.result (is ∙ sym c.refusal-refused.ensures) c.if-refused-ne0.true in
+    record { answer = answer _ _ c.no_plan.ensures ∙ both.0; memory = both.1 }
 
 none : (c : Else-refused-ne0) → first (sheet_checks c.args.bytes.now) ≡ 0
 none c = sym c.refusal-refused.ensures ∙ c.if-refused-ne0.false
 
 known : (c : Else-refused-ne0) → SheetFacts c.args.bytes.now
-known c = sheet_facts _ (let none : first (sheet_checks c.args.bytes.now) ≡ 0 = sym c.refusal-refused.ensures ∙ c.if-refused-ne0.false in none)
+known c = sheet_facts _ (none c)
 
 pub sheet_of-sheet-requires : goal.sheet_of-sheet-requires
 sheet_of-sheet-requires c = (known (goal.at.sheet_of-sheet-requires c).Else-refused-ne0).length_is
@@ -49,33 +52,47 @@ head_is : (c : After-head_of-head) → c.head_of-head.result ≡ plan_head c.arg
 head_is c = c.head_of-head.ensures ∙ ap sheet_head c.sheet_of-sheet.ensures
 
 pub row_length-count-requires : goal.row_length-count-requires
-row_length-count-requires c = rw (head_is (goal.at.row_length-count-requires c).After-head_of-head) (known (goal.at.row_length-count-requires c).Else-refused-ne0).head_ok
+row_length-count-requires c =
+    let at = goal.at.row_length-count-requires c in
+    rw (head_is at.After-head_of-head) (known at.Else-refused-ne0).head_ok
 
-count_is : (c : After-row_length-count) → c.row_length-count.result ≡ row_length (plan_head c.args.bytes.now)
-count_is c = c.row_length-count.ensures ∙ ap row_length (let head_is : c.head_of-head.result ≡ plan_head c.args.bytes.now = c.head_of-head.ensures ∙ ap sheet_head c.sheet_of-sheet.ensures in head_is)
+-- `head` is `head_is`
+count_is :
+    (c : After-row_length-count) → c.head_of-head.result ≡ plan_head c.args.bytes.now
+    → c.row_length-count.result ≡ row_length (plan_head c.args.bytes.now)
+count_is c head = c.row_length-count.ensures ∙ ap row_length head
 
 pub returns-then-row-count : goal.returns-then-row-count
 returns-then-row-count c =
-    let is = refused_short c.args.bytes.now (row_length (plan_head c.args.bytes.now)) (length c.args.row.now) (none (goal.at.returns-then-row-count c).Else-refused-ne0)
-    (omega (arith, count_is (goal.at.returns-then-row-count c).After-row_length-count, c.if-row-count.true)) in
-    let both = refused c.args.bytes.now c.args.row.now 11 is (λ z. omega (arith, z)) in record { answer = answer _ 11 c.no_plan-then-row-count.ensures ∙ both.0; memory = both.1 }
-
-lent_length : (c : After-put_row-arg-1) → length (take c.row_length-count.result c.args.row.now) ≡ c.row_length-count.result
-lent_length c = length-take-le _ _ c.if-row-count.false
+    let at = goal.at.returns-then-row-count c in
+    let bytes = c.args.bytes.now in
+    let row = c.args.row.now in
+    let count = count_is at.After-row_length-count (head_is at.After-head_of-head) in
+    let is = refused_short bytes (row_length (plan_head bytes)) (length row) (none at.Else-refused-ne0) (omega (arith, count, c.if-row-count.true)) in
+    let both = refused bytes row 11 is (λ z. omega (arith, z)) in
+    record { answer = answer _ 11 c.no_plan-then-row-count.ensures ∙ both.0; memory = both.1 }
 
 pub slice_bounds-put_row-end-2 : goal.slice_bounds-put_row-end-2
-slice_bounds-put_row-end-2 c = sym (lent_length (goal.at.slice_bounds-put_row-end-2 c).After-put_row-arg-1)
+slice_bounds-put_row-end-2 c = sym (length-take-le _ _ c.if-row-count.false)
 
 pub put_row-requires : goal.put_row-requires
-put_row-requires c = let both = (
-  rw c.sheet_of-sheet.ensures (known (goal.at.put_row-requires c).Else-refused-ne0).makes_plan,
-  lent_length (goal.at.put_row-requires c).After-put_row-arg-1 ∙ c.row_length-count.ensures ∙ ap row_length c.head_of-head.ensures, in record { makes_plan = both.0; row_len = both.1 }
-
-)
+put_row-requires c =
+    let at = goal.at.put_row-requires c in
+    record {
+      makes_plan = rw c.sheet_of-sheet.ensures (known at.Else-refused-ne0).makes_plan;
+      row_len = length-take-le _ _ c.if-row-count.false ∙ c.row_length-count.ensures ∙ ap row_length c.head_of-head.ensures;
+    }
 
 pub returns : goal.returns
 returns c =
+    let at = goal.at.returns c in
     let bytes = c.args.bytes.now in
-    let none_here = accepted bytes (row_length (plan_head bytes)) (length c.args.row.now) (none (goal.at.returns c).Else-refused-ne0)
-    (omega (arith, count_is (goal.at.returns c).After-row_length-count, c.if-row-count.false)) in
-    let stored = c.put_row.ensures ∙ ap sheet_row c.sheet_of-sheet.ensures in record { answer = ap (read_as 0) (head_is (goal.at.returns c).After-head_of-head) ∙ sym (head_answered _ _ none_here); memory = ap₂ (λ l n. l ++ drop n c.args.row.now) stored (count_is (goal.at.returns c).After-row_length-count) ∙ sym (filled _ _ _ _ none_here) }
+    let row = c.args.row.now in
+    let head = head_is at.After-head_of-head in
+    let count = count_is at.After-row_length-count head in
+    let none_here = accepted bytes (row_length (plan_head bytes)) (length row) (none at.Else-refused-ne0) (omega (arith, count, c.if-row-count.false)) in
+    let stored = c.put_row.ensures ∙ ap sheet_row c.sheet_of-sheet.ensures in
+    record {
+      answer = ap (read_as 0) head ∙ sym (head_answered _ _ none_here);
+      memory = ap₂ (λ l n. l ++ drop n row) stored count ∙ sym (filled _ _ _ _ none_here);
+    }

@@ -1,13 +1,11 @@
 -- `write_all` meets its contract. The invariant: what was written so far, and the last answer, by which some of it was.
 use Prim.Native.Nat.{◌-◌}
 use lib.ListN.{length}
-use mir.Syntax.{w64}
-use mir.Val.{to_z}
 use Rattle.streams.proofs.ReachedLaws.{Going}
 use Rattle.streams.proofs.write_all.Given as goal
 
 abbrev pub invariant-loop-written : goal.invariant-loop-written
-invariant-loop-written l = Going (length l.text) l.written (to_z w64 l.answer)
+invariant-loop-written g l = Going (length l.text) l.written l.answer
 
 abbrev pub decreases-loop-written : goal.decreases-loop-written
-decreases-loop-written l = length l.text - l.written
+decreases-loop-written g l = length l.text - l.written

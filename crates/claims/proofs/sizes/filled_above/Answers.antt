@@ -1,5 +1,4 @@
 use mathlib.Core.Path.{refl}
-use mathlib.Core.Logic.{⊎_elim}
 use Prim.Native.Nat.{ℕ, ◌<◌}
 use native.Mathlib.Nat.{le_refl}
 use lib.ListN.{length-replicate}
@@ -7,12 +6,10 @@ use Rattle.model.specs.Limits.{max_sizes}
 use Rattle.claims.proofs.ListingLaws.{listed_filled, listed_empty, listed_end}
 use native.Mathlib.Omega.{arith}
 use Rattle.claims.proofs.sizes.filled_above.Goals as goal
+use Rattle.claims.proofs.sizes.filled_above.Goals.{then-severity-x-ne0, else-severity-x-ne0}
 
 pub loop-x-init : goal.loop-x-init
 loop-x-init c = (c.requires.1, le_refl _, record { room = length-replicate {A = ℕ} max_sizes 0; fits = omega arith; whole = refl })
-
-pub overflow_sub-x : goal.overflow_sub-x
-overflow_sub-x c = omega arith
 
 pub loop-x-preserved : goal.loop-x-preserved
 loop-x-preserved c =
@@ -21,9 +18,10 @@ loop-x-preserved c =
     let F = c.args.severity.now in (
       omega (arith, c.loop-x-test.true),
       omega (arith, loop.invariant.1),
-      ⊎_elim
-          (λ t. listed_filled F loop.sizes _ loop.count loop.x _ c.requires.0 here t.0.taken t.1 t.2 loop.invariant.2)
-          (λ t. listed_empty F loop.sizes _ loop.count loop.x _ here t.0.left t.1 t.2 loop.invariant.2) c.if-severity-x-ne0.branch,
+      elim c.if-severity-x-ne0.branch [
+        | then-severity-x-ne0 w ↦ listed_filled F loop.sizes _ loop.count loop.x _ c.requires.0 here w.if-severity-x-ne0.true w.sizes-is w.count-is loop.invariant.2
+        | else-severity-x-ne0 w ↦ listed_empty F loop.sizes _ loop.count loop.x _ here w.if-severity-x-ne0.false w.sizes-is w.count-is loop.invariant.2
+      ],
     )
 
 pub returns : goal.returns

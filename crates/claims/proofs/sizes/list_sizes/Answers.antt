@@ -18,5 +18,8 @@ filled_above-requires c =
 pub returns : goal.returns
 returns c =
     let filled = c.filled_above in
-    let dense = c.gapless_sizes-dense in record { listed = listing_is c.args.severity.now _ filled.result.dense
-          (ap (λ d. take filled.result.count filled.result.sizes ++ filled_sizes c.args.severity.now d) filled.ensures.sized.1 ∙ filled.ensures.listed) (filled.ensures.sized.1 ∙ dense.ensures); sized = (filled.ensures.sized.0, sym (length-take-le filled.result.count filled.result.sizes filled.ensures.sized.0)) }
+    let dense = c.gapless_sizes-dense in record {
+      listed = listing_is c.args.severity.now _ filled.result.dense
+          (ap (λ d. take filled.result.count filled.result.sizes ++ filled_sizes c.args.severity.now d) filled.ensures.sized.1 ∙ filled.ensures.listed) (filled.ensures.sized.1 ∙ dense.ensures);
+      sized = (filled.ensures.sized.0, sym (length-take-le filled.result.count filled.result.sizes filled.ensures.sized.0));
+    }

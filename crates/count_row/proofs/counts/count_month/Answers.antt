@@ -9,11 +9,6 @@ use Rattle.count_row.proofs.CountLaws.{new_from, new_from_start, new_from_turn, 
 use Rattle.count_row.proofs.counts.count_month.Goals as goal
 use Rattle.count_row.proofs.counts.count_month.Goals.{At-loop-k}
 
-record Inv (old : List ℕ) (round : Rounding) (P : ℕ) (row : List ℕ) (k : ℕ) : Type 0 where
-  within : k < length old
-  same_length : length row ≡ length old
-  so_far : row ≡ new_from old round P (k + 1)
-
 pub overflow_sub-k : goal.overflow_sub-k
 overflow_sub-k c = omega arith
 

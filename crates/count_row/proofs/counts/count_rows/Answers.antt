@@ -27,8 +27,7 @@ loop-t-smaller c = omega arith
 
 pub loop-t-preserved : goal.loop-t-preserved
 loop-t-preserved c =
-    let loop = c.loop-t in
-    (
+    let loop = c.loop-t in (
       omega arith,
       rw c.month-row.ensures (counting_rows_turn c.args.chances.now c.requires loop.row loop.t (omega arith) loop.invariant.1),
     )

@@ -12,8 +12,8 @@ use Rattle.engine.proofs.AnswerLaws.{answer_worked, terms_lent, levels_fit, last
 use Rattle.engine.proofs.answers.work_out.Goals as goal
 use Rattle.engine.proofs.answers.work_out.Goals.{Start}
 
-known : (c : Start) → Facts s.args.head s.args.row.now
-known c = facts s.args.head s.args.row.now s.requires.0
+known : (c : Start) → Facts c.args.head c.args.row.now
+known c = facts c.args.head c.args.row.now c.requires.accepted
 
 pub overflow_add-end : goal.overflow_add-end
 overflow_add-end c = omega (arith, known (goal.at.overflow_add-end c).Start)
@@ -34,26 +34,35 @@ pub slice_bounds-bounds_from-end-4 : goal.slice_bounds-bounds_from-end-4
 slice_bounds-bounds_from-end-4 c = omega (arith, (known (goal.at.slice_bounds-bounds_from-end-4 c).Start).row_is)
 
 pub offset_bounds-row-end : goal.offset_bounds-row-end
-offset_bounds-row-end c = omega (arith, (known (lent c)).row_is)
+offset_bounds-row-end c = omega (arith, (known (goal.at.offset_bounds-row-end c).Start).row_is)
 
 pub bounds-row-end : goal.bounds-row-end
-bounds-row-end c = omega (arith, (known (lent c)).row_is)
+bounds-row-end c = omega (arith, (known (goal.at.bounds-row-end c).Start).row_is)
 
 pub bounds_from-bounds-requires : goal.bounds_from-bounds-requires
 bounds_from-bounds-requires c =
-    let s = lent c in
-    let a = s.args in
-    let w = s.pre.1.0 in record { workspace_len = (
+    let facts = known (goal.at.bounds_from-bounds-requires c).Start in
+    let a = c.args in
+    let w = c.requires.workable in
+    record {
+      workspace_len = (
         length-take-le (2 * rows_size a.shape) a.workspace.now w.enough,
-        rw w.earns (levels_fit a.head a.row.now (known s).row_is a.months a.shape.width w.within w.wide),
-      ); income_nonzero = (rw w.earns (known s).head.income_some, rw w.earns (known s).head.income_fits); plan_terms = terms_lent a.head a.row.now (known s) a.months; last_fits = last_lent a.last a.shape a.head a.row.now s.pre.1.1 }
+        rw w.earns (levels_fit a.head a.row.now facts.row_is a.months a.shape.width w.within w.wide),
+      );
+      income_nonzero = (rw w.earns facts.head.income_some, rw w.earns facts.head.income_fits);
+      plan_terms = terms_lent a.head a.row.now facts a.months;
+      last_fits = last_lent a.last a.shape a.head a.row.now c.requires.last_fits;
+    }
 
 pub returns : goal.returns
 returns c =
     let call = c.bounds_from-bounds in
-    let s = lent c in
-    let a = s.args in
-    let w = s.pre.1.0 in
-    let count = length-take-le (2 * rows_size a.shape) a.workspace.now w.enough in record { answered = answer_worked call.result.lower call.result.upper _ _
+    let a = c.args in
+    let w = c.requires.workable in
+    let count = length-take-le (2 * rows_size a.shape) a.workspace.now w.enough in
+    record {
+      answered = answer_worked call.result.lower call.result.upper _ _
           (value_lent Down a.head a.row.now a.months a.shape w.earns a.last call.result.lower w.within call.ensures.lower)
-          (value_lent Up a.head a.row.now a.months a.shape w.earns a.last call.result.upper w.within call.ensures.upper); cleared = ap (λ front. front ++ drop (2 * rows_size a.shape) a.workspace.now) (call.ensures.cleared ∙ ap (λ n. replicate n 0) count) }
+          (value_lent Up a.head a.row.now a.months a.shape w.earns a.last call.result.upper w.within call.ensures.upper);
+      cleared = ap (λ front. front ++ drop (2 * rows_size a.shape) a.workspace.now) (call.ensures.cleared ∙ ap (λ n. replicate n 0) count);
+    }

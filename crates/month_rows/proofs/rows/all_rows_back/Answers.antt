@@ -13,11 +13,6 @@ use Rattle.month_rows.proofs.OneMonth.{rows_before, rows_left, own_sizes_le, tot
 use Rattle.month_rows.proofs.rows.all_rows_back.Goals as goal
 use Rattle.month_rows.proofs.rows.all_rows_back.Goals.{After-loop-j, After-own_sizes-own, After-row_back-2, In-loop-j}
 
-record Inv (old : List ℕ) (top : ℕ) (F : List ℕ) (P : ℕ) (round : Rounding) (tallied : Bool) (width income live last : ℕ) (rows : List ℕ) (j : ℕ) : Type 0 where
-  within : j ≤ last
-  levels : live + income ≡ top + 1
-  back : GoingBack last width live (rows_before round income F P tallied (rows_left last width top old)) old rows j
-
 pub overflow_add-live : goal.overflow_add-live
 overflow_add-live c =
     omega (arith, row_fits 0 c.args.shape.rows c.args.shape.width c.requires.rows_in.some, c.requires.rows_in.size)
@@ -94,43 +89,49 @@ own_fits : (c : After-own_sizes-own) → c.own_sizes-own.result ≤ length c.arg
 own_fits c = let a = c.args in omega (arith, c.own_sizes-own.ensures, own_sizes_le a.shape.tallied (length a.severity.now))
 
 pub slice_bounds-row_back-end : goal.slice_bounds-row_back-end
-slice_bounds-row_back-end c = simp length-take (omega (arith, own_fits (sized c)))
+slice_bounds-row_back-end c = simp length-take (omega (arith, own_fits (goal.at.slice_bounds-row_back-end c).After-own_sizes-own))
 
 pub row_back-requires-2 : goal.row_back-requires-2
 row_back-requires-2 c =
-    let at-sizes = sized c in
-    let inv = (ended at-sizes).before.loop.inv in
-    let from = start (ended at-sizes).before in
-    let own : MonthTerms _ from.args.sizes.now from.args.dense from.args.chance =
+    let sized = (goal.at.row_back-requires-2 c).After-own_sizes-own in
+    let inv = c.loop-j.invariant in
+    let a = c.args in
+    let terms = c.requires.month_terms in
+    let own : MonthTerms _ a.sizes.now a.dense a.chance =
     record {
-      listing = listing_take from.args.severity.now from.args.sizes.now from.args.dense at-sizes.own_sizes.result (own_fits at-sizes) from.pre.1.1.listing;
-      weights_fit = le_trans (total_take_le at-sizes.own_sizes.result from.args.severity.now) from.pre.1.1.weights_fit;
-      chance_fits = from.pre.1.1.chance_fits;
-    } in record { quiet_le_claimed = (omega arith, omega (arith, inv.levels, from.pre.0.income_some), omega (arith, last_fits (ended at-sizes), inv.back.same_length)); parts_2 = inv.back.parts; month_terms = own }
+      listing = listing_take a.severity.now a.sizes.now a.dense c.own_sizes-own.result (own_fits sized) terms.listing;
+      weights_fit = le_trans (total_take_le c.own_sizes-own.result a.severity.now) terms.weights_fit;
+      chance_fits = terms.chance_fits;
+    } in record {
+      quiet_le_claimed = (omega arith, omega (arith, inv.levels, c.requires.rows_in.income_some), omega (arith, last_fits (goal.at.row_back-requires-2 c).After-loop-j, inv.back.same_length));
+      parts_2 = inv.back.parts;
+      month_terms = own;
+    }
 
-done : (c : After-row_back-2) → let a = (start (ended (sized c)).before).args in GoingBack (a.shape.rows - 1) a.shape.width (a.top + 1 - a.shape.income) (rows_before a.round a.shape.income a.severity.now a.chance a.shape.tallied (rows_left (a.shape.rows - 1) a.shape.width a.top a.rows.now)) a.rows.now c.row_back-2.new.rows (a.shape.rows - 1 + 1)
+done : (c : After-row_back-2) → let a = c.args in GoingBack (a.shape.rows - 1) a.shape.width (a.top + 1 - a.shape.income) (rows_before a.round a.shape.income a.severity.now a.chance a.shape.tallied (rows_left (a.shape.rows - 1) a.shape.width a.top a.rows.now)) a.rows.now c.row_back-2.new.rows (a.shape.rows - 1 + 1)
 done c =
     let call = c.row_back-2 in
-    let at-sizes = sized c in
-    let own = at-sizes.own_sizes in
-    let loop = (ended at-sizes).before.loop in
-    let from = start (ended at-sizes).before in
-    let a = from.args in
-    let here : loop.j ≡ a.shape.rows - 1 = omega (arith, loop.inv.within, (ended at-sizes).loop-test.left) in
-    going_back_end _ a.shape.width a.shape.tallied a.shape.income from.pre.0.income_some a.top _ loop.inv.levels from.pre.1.0.inside a.rows.now a.severity.now a.chance a.round
-    loop.rows loop.j here loop.inv.back own.result own.ensures call.new.rows call.auto.rows call.ensures.parts call.ensures.rewritten
+    let own = c.own_sizes-own in
+    let loop = c.loop-j in
+    let a = c.args in
+    let here : loop.j ≡ a.shape.rows - 1 = omega (arith, loop.invariant.within, c.loop-j-test.false) in
+    going_back_end _ a.shape.width a.shape.tallied a.shape.income c.requires.rows_in.income_some a.top _ loop.invariant.levels c.requires.top_in.inside a.rows.now a.severity.now a.chance a.round
+    loop.rows loop.j here loop.invariant.back own.result own.ensures call.new.rows call.auto.rows call.ensures.parts call.ensures.rewritten
 
 pub shape_of-rows : goal.shape_of-rows
 shape_of-rows c = (done (goal.at.shape_of-rows c).After-row_back-2).same_length
 
 pub returns : goal.returns
 returns c =
-    let at-loop = (ended (sized c)).before in
-    let inv = at-loop.loop.inv in
-    let from = start at-loop in
-    let a = from.args in
-    let whole : (k : ℕ) → k < a.shape.rows → k ≤ a.shape.rows - 1 = λ k l. omega arith in record { rewritten = (λ k l.
-          going_back_done _ a.shape.width a.shape.tallied a.shape.income from.pre.0.income_some a.top _ inv.levels from.pre.1.0.inside a.rows.now a.severity.now a.chance a.round _ _
-          (omega arith) (done (goal.at.returns c).After-row_back-2) k (whole k l)); beyond = (λ k l.
-            going_back_beyond _ a.shape.width a.shape.tallied a.shape.income from.pre.0.income_some a.top _ inv.levels from.pre.1.0.inside a.rows.now a.severity.now a.chance a.round _ _
-            (omega arith) (done (goal.at.returns c).After-row_back-2) k (whole k l)); parts = (done (goal.at.returns c).After-row_back-2).parts }
+    let inv = c.loop-j.invariant in
+    let a = c.args in
+    let back = done (goal.at.returns c).After-row_back-2 in
+    let whole : (k : ℕ) → k < a.shape.rows → k ≤ a.shape.rows - 1 = λ k l. omega arith in record {
+      rewritten = λ k l.
+          going_back_done _ a.shape.width a.shape.tallied a.shape.income c.requires.rows_in.income_some a.top _ inv.levels c.requires.top_in.inside a.rows.now a.severity.now a.chance a.round _ _
+          (omega arith) back k (whole k l);
+      beyond = λ k l.
+          going_back_beyond _ a.shape.width a.shape.tallied a.shape.income c.requires.rows_in.income_some a.top _ inv.levels c.requires.top_in.inside a.rows.now a.severity.now a.chance a.round _ _
+          (omega arith) back k (whole k l);
+      parts = back.parts;
+    }

@@ -68,5 +68,8 @@ shape_of-rows c = c.loop-j.invariant.1.same_length
 
 pub returns : goal.returns
 returns c =
-    let inv = c.loop-j.invariant in record { forbidden = forbidden_in c.args.shape c.args.top c.args.rows.now _ _ _ _ c.loop-j-test.false
-          c.difference-first.ensures c.difference-last.ensures inv.1; parts = inv.1.parts }
+    let inv = c.loop-j.invariant in record {
+      forbidden = forbidden_in c.args.shape c.args.top c.args.rows.now _ _ _ _ c.loop-j-test.false
+          c.difference-first.ensures c.difference-last.ensures inv.1;
+      parts = inv.1.parts;
+    }

@@ -14,4 +14,4 @@ pub listed_halves_back-requires : goal.listed_halves_back-requires
 listed_halves_back-requires c = record { halves_in = c.requires.halves_in; chances_bound = c.requires.chances_bound; plan_terms = c.requires.plan_terms; listing = c.list_sizes-filled.ensures.listed }
 
 pub returns : goal.returns
-returns c = let both = c.listed_halves_back.ensures in record { lower = both.0; upper = both.1 }
+returns c = let both = c.listed_halves_back.ensures in record { lower = both.lower; upper = both.upper }

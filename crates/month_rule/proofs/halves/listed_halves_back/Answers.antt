@@ -14,8 +14,12 @@ pub slice_bounds-all_months_back-end-2 : goal.slice_bounds-all_months_back-end-2
 slice_bounds-all_months_back-end-2 c = simp length-take (omega arith)
 
 pub all_months_back-requires : goal.all_months_back-requires
-all_months_back-requires c =
-    (lower_rows c.args.shape c.args.halves.now c.requires.halves_in, c.requires.1)
+all_months_back-requires c = record {
+  rows_in = lower_rows c.args.shape c.args.halves.now c.requires.halves_in;
+  chances_bound = c.requires.chances_bound;
+  plan_terms = c.requires.plan_terms;
+  listing = c.requires.listing;
+}
 
 -- the second half as it is lent
 second : (c : After-all_months_back) → let xs = c.args.halves.now in let half = rows_size c.args.shape in let halves = c.all_months_back.new.rows ++ drop half xs in mid_of half (length halves - half) halves ≡ drop half xs
@@ -23,8 +27,12 @@ second c =
     second_lent c.args.halves.now c.all_months_back.new.rows c.all_months_back.new.rows (rows_size c.args.shape) c.requires.halves_in.size c.all_months_back.auto.rows
 
 pub all_months_back-requires-2 : goal.all_months_back-requires-2
-all_months_back-requires-2 c =
-    (rw (second (goal.at.all_months_back-requires-2 c).After-all_months_back) (upper_rows c.args.shape c.args.halves.now c.requires.halves_in), c.requires.1)
+all_months_back-requires-2 c = record {
+  rows_in = rw (second (goal.at.all_months_back-requires-2 c).After-all_months_back) (upper_rows c.args.shape c.args.halves.now c.requires.halves_in);
+  chances_bound = c.requires.chances_bound;
+  plan_terms = c.requires.plan_terms;
+  listing = c.requires.listing;
+}
 
 pub returns : goal.returns
 returns c =

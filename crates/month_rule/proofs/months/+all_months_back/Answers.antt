@@ -15,17 +15,7 @@ use Rattle.month_rows.proofs.RowLaws.{parts_part}
 use Rattle.month_rows.proofs.ManyRows.{row_fits, rows_in_again}
 use Rattle.month_rule.proofs.AllMonths.{taken_back_none, taken_back_more}
 use Rattle.month_rule.proofs.months.+all_months_back.Goals as goal
-use Rattle.month_rule.proofs.months.+all_months_back.Goals.{Else-chances-lt1, Start}
-
--- what the contract requires, by name
-rows-known : (t : ℕ) (c : Start) → RowsIn s.args.shape s.args.rows.now
-rows-known t c = s.requires.1.0
-
-terms-known : (t : ℕ) (c : Start) → PlanTerms s.args.severity.now s.args.chances.now
-terms-known t c = s.requires.1.1.1.0
-
-listing-known : (t : ℕ) (c : Start) → Listing s.args.severity.now s.args.sizes.now s.args.dense
-listing-known t c = s.requires.1.1.1.1
+use Rattle.month_rule.proofs.months.+all_months_back.Goals.{Else-chances-lt1}
 
 -- a month's income keeps within the rows
 record Fits (income opening months width size : ℕ) : Type 0 where
@@ -34,7 +24,7 @@ record Fits (income opening months width size : ℕ) : Type 0 where
   first : opening + income < width
   row : width ≤ size
 
-fits : (t : ℕ) (c : Else-chances-lt1) → let a = c.args in Fits a.shape.income a.opening (length a.chances.now) a.shape.width (length a.rows.now)
+fits : (t : ℕ) (c : Else-chances-lt1 t) → let a = c.args in Fits a.shape.income a.opening (length a.chances.now) a.shape.width (length a.rows.now)
 fits t c =
     let a = c.args in
     let n = length a.chances.now in
@@ -44,12 +34,12 @@ fits t c =
       some-month = omega arith;
       levels = levels;
       first = omega (arith, level_from a.shape.income (a.opening + a.shape.income) (a.opening + a.shape.income) (n - 1) (omega arith));
-      row = omega (arith, (let rows_known : RowsIn s.args.shape s.args.rows.now = s.requires.1.0 in rows_known).size, row_fits 0 a.shape.rows a.shape.width (let rows_known : RowsIn s.args.shape s.args.rows.now = s.requires.1.0 in rows_known).some);
+      row = omega (arith, c.requires.rows_in.size, row_fits 0 a.shape.rows a.shape.width c.requires.rows_in.some);
     }
 
 pub returns-then-chances-lt1 : goal.returns-then-chances-lt1
 returns-then-chances-lt1 t c =
-    let a = c.args in record { values = rw (no_chances a.chances.now (omega arith)) (taken_back_none a.round a.severity.now a.shape a.opening a.rows.now); parts = (rows-known t (goal.at.returns-then-chances-lt1 t c).Start).parts }
+    let a = c.args in record { values = rw (no_chances a.chances.now (omega arith)) (taken_back_none a.round a.severity.now a.shape a.opening a.rows.now); parts = c.requires.rows_in.parts }
 
 pub overflow_add-after : goal.overflow_add-after
 overflow_add-after t c = omega (arith, (fits t (goal.at.overflow_add-after t c).Else-chances-lt1).first, (fits t (goal.at.overflow_add-after t c).Else-chances-lt1).row)
@@ -69,7 +59,7 @@ all_months_back-requires t c =
     let n = length a.chances.now in
     let fewer : length (take (n - 1) (drop 1 a.chances.now)) ≡ n - 1 = length-take-le (n - 1) (drop 1 a.chances.now) (omega (arith, length-drop 1 a.chances.now)) in
     let terms : PlanTerms a.severity.now (take (n - 1) (drop 1 a.chances.now)) =
-    record { weights_fit = (terms-known t (goal.at.all_months_back-requires t c).Start).weights_fit; sizes_fit = (terms-known t (goal.at.all_months_back-requires t c).Start).sizes_fit; chances_fit = parts_part a.chances.now 1 (n - 1) (terms-known t (goal.at.all_months_back-requires t c).Start).chances_fit } in record { rows_in = omega (arith, fewer, (fits t (goal.at.all_months_back-requires t c).Else-chances-lt1).some-month, c.pre.0); chances_bound = rows-known t (goal.at.all_months_back-requires t c).Start; plan_terms = rw fewer (fits t (goal.at.all_months_back-requires t c).Else-chances-lt1).levels; listing = (terms, listing-known t (goal.at.all_months_back-requires t c).Start) }
+    record { weights_fit = c.requires.plan_terms.weights_fit; sizes_fit = c.requires.plan_terms.sizes_fit; chances_fit = parts_part a.chances.now 1 (n - 1) c.requires.plan_terms.chances_fit } in (omega (arith, fewer, (fits t (goal.at.all_months_back-requires t c).Else-chances-lt1).some-month), (c.requires.rows_in, (rw fewer (fits t (goal.at.all_months_back-requires t c).Else-chances-lt1).levels, (terms, c.requires.listing))))
 
 pub bounds-chances-0 : goal.bounds-chances-0
 bounds-chances-0 t c = omega (arith, (fits t (goal.at.bounds-chances-0 t c).Else-chances-lt1).some-month)
@@ -79,15 +69,18 @@ month_back-requires t c =
     let a = c.args in
     let terms : MonthTerms a.severity.now a.sizes.now a.dense (get_or a.chances.now 0 0) =
     record {
-      weights_fit = (terms-known t (goal.at.month_back-requires t c).Start).weights_fit;
-      listing = listing-known t (goal.at.month_back-requires t c).Start;
-      chance_fits = (terms-known t (goal.at.month_back-requires t c).Start).chances_fit.each 0;
-    } in record { rows_in = rows_in_again a.shape a.rows.now (c.all_months_back.new.rows) (rows-known t (goal.at.month_back-requires t c).Start) (c.all_months_back.auto.rows) (c.all_months_back.ensures.parts); top_in = record { income_below = omega arith; inside = (fits t (goal.at.month_back-requires t c).Else-chances-lt1).first }; month_terms = terms }
+      weights_fit = c.requires.plan_terms.weights_fit;
+      listing = c.requires.listing;
+      chance_fits = c.requires.plan_terms.chances_fit.each 0;
+    } in record { rows_in = rows_in_again a.shape a.rows.now (c.all_months_back.new.rows) c.requires.rows_in (c.all_months_back.auto.rows) (c.all_months_back.ensures.parts); top_in = record { income_below = omega arith; inside = (fits t (goal.at.month_back-requires t c).Else-chances-lt1).first }; month_terms = terms }
 
 pub returns : goal.returns
 returns t c =
     let first = c.month_back in
     let rest = c.all_months_back in
-    let a = c.args in record { values = rw (first_and_rest a.chances.now (fits t (goal.at.returns t c).Else-chances-lt1).some-month)
+    let a = c.args in record {
+      values = rw (first_and_rest a.chances.now (fits t (goal.at.returns t c).Else-chances-lt1).some-month)
           (taken_back_more a.round a.severity.now a.shape a.opening (get_or a.chances.now 0 0) (take (length a.chances.now - 1) (drop 1 a.chances.now))
-          a.rows.now rest.new.rows first.new.rows rest.ensures.values first.ensures.back first.ensures.beyond); parts = first.ensures.parts }
+          a.rows.now rest.new.rows first.new.rows rest.ensures.values first.ensures.back first.ensures.beyond);
+      parts = first.ensures.parts;
+    }

@@ -11,13 +11,13 @@ returns-in-Survive c = λ s. sym (ap (λ q. last_of q c.args.left s) c.in-Surviv
 
 pub returns-then-left-eq0 : goal.returns-then-left-eq0
 unfolding S last_of
-returns-then-left-eq0 c =
+returns-then-left-eq0 c = λ s.
     let a = c.args in
     none_unplaced a.left s c.if-left-eq0.true ∙ sym (ap (λ q. last_of q a.left s) c.in-Both.is)
 
 pub returns-else-left-eq0 : goal.returns-else-left-eq0
 unfolding last_of
-returns-else-left-eq0 c =
+returns-else-left-eq0 c = λ s.
     let a = c.args in
     some_unplaced a.left s c.if-left-eq0.false ∙ sym (ap (λ q. last_of q a.left s) c.in-Both.is)
 

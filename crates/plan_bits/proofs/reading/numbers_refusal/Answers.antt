@@ -32,7 +32,8 @@ pub slice_bounds-row-end-2 : goal.slice_bounds-row-end-2
 slice_bounds-row-end-2 c = simp length-append (omega (arith, decoded-length (goal.at.slice_bounds-row-end-2 c).After-decode))
 
 pub slice_bounds-plan_refusal-end : goal.slice_bounds-plan_refusal-end
-slice_bounds-plan_refusal-end c = sym (length-take-le _ _ (array-share-prefix-row c))
+slice_bounds-plan_refusal-end c =
+    sym (length-take-le _ _ (simp length-append (omega (arith, decoded-length (goal.at.slice_bounds-plan_refusal-end c).After-decode))))
 
 pub returns : goal.returns
 returns c =

@@ -23,6 +23,10 @@ pub returns-then-bytes-lt-HEAD_BYTES : goal.returns-then-bytes-lt-HEAD_BYTES
 unfolding head_bits
 returns-then-bytes-lt-HEAD_BYTES c = sym (read_short _ _ c.if-bytes-lt-HEAD_BYTES.true)
 
+pub head_of-head-requires : goal.head_of-head-requires
+unfolding head_bits
+head_of-head-requires c = c.if-bytes-lt-HEAD_BYTES.false
+
 head-whole : (c : After-head_of-head) → head_bytes ≤ length c.args.bytes.now
 unfolding head_bits
 head-whole c = c.if-bytes-lt-HEAD_BYTES.false

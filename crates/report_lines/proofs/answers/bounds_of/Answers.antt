@@ -7,4 +7,8 @@ pub returns : goal.returns
 returns c =
     let ask = c.ask-answer.ensures in
     let pre = c.requires in
-    let answer = ask.0 ∙ asked pre.0 _ pre.1 in record { answered = ap (λ a. record { lower = a.lower; upper = a.upper }) answer; cleared = ask.1.0 ∙ asked_leaves pre.0 _ pre.1 }
+    let answer = ask.answered ∙ asked pre.answerable _ pre.question_value in
+    record {
+      answered = ap (λ a. record { lower = a.lower; upper = a.upper }) answer;
+      cleared = ask.cleared ∙ asked_leaves pre.answerable _ pre.question_value;
+    }

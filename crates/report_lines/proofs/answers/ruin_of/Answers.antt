@@ -7,4 +7,8 @@ pub returns : goal.returns
 returns c =
     let call = c.ruin_in_month-answer.ensures in
     let pre = c.requires in
-    let answer = call.0 ∙ ruined pre.0 _ pre.1 in record { answered = ap (λ a. record { lower = a.lower; upper = a.upper }) answer; cleared = call.1.0 ∙ ruined_leaves pre.0 _ pre.1 }
+    let answer = call.answered ∙ ruined pre.answerable _ pre.month_value in
+    record {
+      answered = ap (λ a. record { lower = a.lower; upper = a.upper }) answer;
+      cleared = call.cleared ∙ ruined_leaves pre.answerable _ pre.month_value;
+    }

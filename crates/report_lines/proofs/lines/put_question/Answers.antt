@@ -6,4 +6,8 @@ use Rattle.report_lines.proofs.lines.put_question.Goals as goal
 pub returns : goal.returns
 unfolding question_line
 returns c =
-    let asked = c.bounds_of-bounds.ensures in record { written = rw (← ap (λ b. b.lower) asked.0, ← ap (λ b. b.upper) asked.0) c.put_bounds.ensures; cleared = asked.1 }
+    let asked = c.bounds_of-bounds.ensures in
+    record {
+      written = rw (← ap (λ b. b.lower) asked.answered, ← ap (λ b. b.upper) asked.answered) c.put_bounds.ensures;
+      cleared = asked.cleared;
+    }

@@ -11,13 +11,13 @@ use Rattle.sheet_values.specs.Rules.{weights, tail}
 use Rattle.sheet_values.proofs.RuleLaws.{sizes_stored}
 use Rattle.sheet_values.proofs.GuardLaws.{weights_never_pass}
 use Rattle.sheet_values.proofs.rules.put_sizes.Goals as goal
-use Rattle.sheet_values.proofs.rules.put_sizes.Goals.{After-put_weights-arg-1, After-weights_total}
+use Rattle.sheet_values.proofs.rules.put_sizes.Goals.{Start, After-weights_total}
 
-lent_length : (c : After-put_weights-arg-1) → length (take (length c.args.row.now - 1) c.args.row.now) ≡ length c.args.row.now - 1
+lent_length : (c : Start) → length (take (length c.args.row.now - 1) c.args.row.now) ≡ length c.args.row.now - 1
 lent_length c = length-take-le _ _ (omega arith)
 
 pub slice_bounds-put_weights-end-2 : goal.slice_bounds-put_weights-end-2
-slice_bounds-put_weights-end-2 c = sym (lent_length (goal.at.slice_bounds-put_weights-end-2 c).After-put_weights-arg-1)
+slice_bounds-put_weights-end-2 c = sym (lent_length (goal.at.slice_bounds-put_weights-end-2 c).Start)
 
 -- what was summed: the weights of all sizes
 summed : (c : After-weights_total) → c.weights_total.result ≡ total (weights c.args.alpha (length c.args.row.now - 1))
@@ -41,6 +41,6 @@ returns c =
     let row = c.args.row.now in
     let m = length row - 1 in
     let alpha = c.args.alpha in
-    let stored = c.put_weights.ensures ∙ ap (weights alpha) (lent_length (goal.at.returns c).After-put_weights-arg-1) in
+    let stored = c.put_weights.ensures ∙ ap (weights alpha) (lent_length (goal.at.returns c).Start) in
     ap₂ (λ w v. set (w ++ drop m row) m v) stored (ap (λ t. S - t) (summed (goal.at.returns c).After-weights_total))
     ∙ sizes_stored alpha row m (omega (arith, c.requires.0))

@@ -13,12 +13,12 @@ use Rattle.sheet_values.proofs.rules.some_outside.Goals as goal
 use Rattle.sheet_values.proofs.rules.some_outside.Goals.{After-is_within}
 
 -- what the test says of the month
-tested : (c : After-is_within) → not c.is_Within.result ≡ outside c.args.rule (suc c.loop-passed.passed)
+tested : (c : After-is_within) → not c.is_within.result ≡ outside c.args.rule (suc c.loop-passed.passed)
 tested c =
     let rule = c.args.rule in
     let passed = c.loop-passed.passed in
     let of-month : c.chance.result ≡ Rules·chance rule (passed + 1) = c.chance.ensures in
-    ap not (c.is_Within.ensures ∙ ap within (of-month ∙ ap (Rules·chance rule) (add-one passed)))
+    ap not (c.is_within.ensures ∙ ap within (of-month ∙ ap (Rules·chance rule) (add-one passed)))
 
 pub loop-passed-init : goal.loop-passed-init
 loop-passed-init c = (search rules, below_none _)
@@ -28,11 +28,11 @@ chance-requires c = omega arith
 
 pub returns-then-not-is_within : goal.returns-then-not-is_within
 returns-then-not-is_within c =
-    sym (some_to _ (outside c.args.rule) c.loop-passed.passed c.loop-passed-test.true (sym (tested (goal.at.returns-then-not-is_within c).After-is_within) ∙ c.if-not-is_within.true))
+    sym (some_to _ (outside c.args.rule) c.loop-passed.passed c.loop-passed-test.true (sym (tested (goal.at.returns-then-not-is_within c).After-is_within) ∙ ap not c.if-not-is_within.true))
 
 pub loop-passed-preserved : goal.loop-passed-preserved
 loop-passed-preserved c =
-    (omega arith, below_more _ _ c.loop-passed.invariant.1 (sym (tested (goal.at.loop-passed-preserved c).After-is_within) ∙ c.if-not-is_within.false))
+    (omega arith, below_more _ _ c.loop-passed.invariant.1 (sym (tested (goal.at.loop-passed-preserved c).After-is_within) ∙ ap not c.if-not-is_within.false))
 
 pub returns : goal.returns
 returns c =
