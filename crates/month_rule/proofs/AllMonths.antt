@@ -8,8 +8,7 @@ use native.Mathlib.Nat.{zero-mul}
 use native.Mathlib.Omega.{arith}
 use borrow.Author.Tests.{le-ltb}
 use lib.Dec.{leb}
-use lib.ListN.{length, get_or, take, drop}
-use lib.Seq.{take_all}
+use lib.ListN.{length, get_or}
 use Rattle.model.specs.declared.Rounding.{Rounding}
 use Rattle.model.specs.Levels.{largest_level}
 use Rattle.model.specs.MonthRule.{Row, Rule, month, kept, claimed_row, month_back, values}

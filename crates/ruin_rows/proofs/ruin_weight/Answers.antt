@@ -1,4 +1,4 @@
-use Prim.Native.Nat.{◌+◌, ◌-◌, ◌≤◌}
+use Prim.Native.Nat.{◌+◌, ◌≤◌}
 use native.Mathlib.Omega.{arith}
 use Rattle.model.specs.Scale.{S}
 use Rattle.ruin_rows.proofs.RuinLaws.{Weighing, weighing_start, weighing_turn, weighing_end}

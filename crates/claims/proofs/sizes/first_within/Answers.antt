@@ -1,5 +1,4 @@
 use mathlib.Core.Path.{refl}
-use Prim.Native.Nat.{◌-◌}
 use native.Mathlib.Omega.{arith}
 use Rattle.claims.proofs.ListingLaws.{searching_turn, searching_found, searching_none}
 use Rattle.claims.proofs.sizes.first_within.Goals as goal

@@ -1,4 +1,3 @@
-use Prim.Native.Nat.{◌-◌}
 use native.Mathlib.Nat.{zero-add}
 use Rattle.claims.proofs.ListingLaws.{gapless_more, gapless_stop, gapless_end}
 use native.Mathlib.Omega.{arith}

@@ -1,5 +1,4 @@
 -- `dense_sum` meets its contract. The invariant: the sum so far and the sum over the sizes below are the whole, which bounds the sum too.
-use Prim.Native.Nat.{◌-◌}
 use Rattle.claims.specs.Listing.{sum_term}
 use Rattle.claims.proofs.SummingLaws.{DownSumming}
 use Rattle.claims.proofs.sum.dense_sum.Given as goal

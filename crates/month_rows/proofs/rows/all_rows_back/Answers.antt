@@ -1,11 +1,8 @@
 use mathlib.Core.Path.{◌≡◌}
-use mathlib.Core.Bool.{Bool}
-use mathlib.Core.List.{List}
 use Prim.Native.Nat.{ℕ, ◌+◌, ◌*◌, ◌-◌, ◌<◌, ◌≤◌}
 use native.Mathlib.Nat.{le_trans}
 use native.Mathlib.Omega.{arith}
 use lib.ListN.{length, length-take}
-use Rattle.model.specs.declared.Rounding.{Rounding}
 use Rattle.claims.proofs.ListingLaws.{listing_take}
 use Rattle.month_rows.specs.Rows.{MonthTerms}
 use Rattle.month_rows.proofs.ManyRows.{row_fits}

@@ -7,10 +7,8 @@ use lib.Seq.{length-take-le}
 use Rattle.model.specs.Levels.{largest_level}
 use Rattle.model.proofs.LevelLaws.{level_next, level_from}
 use Rattle.model.proofs.Values.{no_chances, first_and_rest}
-use Rattle.claims.specs.Listing.{Listing}
 use Rattle.month_rows.specs.Rows.{MonthTerms}
 use Rattle.month_rule.specs.Months.{PlanTerms}
-use Rattle.month_rows.specs.Shapes.{RowsIn}
 use Rattle.month_rows.proofs.RowLaws.{parts_part}
 use Rattle.month_rows.proofs.ManyRows.{row_fits, rows_in_again}
 use Rattle.month_rule.proofs.AllMonths.{taken_back_none, taken_back_more}
