@@ -10,7 +10,7 @@ unfolding level_lines
 put_refused-requires c = omega (arith, c.requires)
 
 pub returns-then-month-eq0 : goal.returns-then-month-eq0
-returns-then-month-eq0 c = let a = c.args in appended_as (first_is a.month _ c.if-month-eq0.true) c.Put-refused.ensures
+returns-then-month-eq0 c = let a = c.args in appended_as (first_is a.month _ c.if-month-eq0.true) c.put_refused.ensures
 
 pub returns : goal.returns
 returns c = let a = c.args in appended_as (later_empty a.month _ c.if-month-eq0.false) (appended_none a.text.now 0 (omega arith))

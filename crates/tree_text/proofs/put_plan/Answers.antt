@@ -21,17 +21,20 @@ not_refused : (c : Else-wrong-ne0) → let a = c.args in plain_refusal (record {
 not_refused c = sym c.refusal-wrong.ensures ∙ c.if-wrong-ne0.false
 
 known : (c : Else-wrong-ne0) → let a = c.args in Taken (record { head = a.head; question = a.question }) a.row.now
-known c = taken _ _ (let not_refused : let a = c.args in plain_refusal (record { head = a.head; question = a.question }) a.row.now ≡ 0 = sym c.refusal-wrong.ensures ∙ c.if-wrong-ne0.false in not_refused)
+known c = taken _ _ (not_refused c)
 
-terms : (c : Else-months-month) → let a = c.args in SmallTerms a.question a.head.opening (take a.head.months a.row.now) (take (a.head.months + a.head.sizes - a.head.months) (drop a.head.months a.row.now)) (get_or a.row.now (a.head.months + a.head.sizes) 0) a.month
-terms c = let a = c.args in terms_lent a.question a.head a.row.now a.month (let known : let a = c.args in Taken (record { head = a.head; question = a.question }) a.row.now = taken _ _ (let not_refused : let a = c.args in plain_refusal (record { head = a.head; question = a.question }) a.row.now ≡ 0 = sym c.refusal-wrong.ensures ∙ c.if-wrong-ne0.false in not_refused) in known) c.if-months-month.false
+terms :
+    (c : Else-months-month) → let a = c.args in
+    Taken (record { head = a.head; question = a.question }) a.row.now →
+    SmallTerms a.question a.head.opening (take a.head.months a.row.now) (take (a.head.months + a.head.sizes - a.head.months) (drop a.head.months a.row.now)) (get_or a.row.now (a.head.months + a.head.sizes) 0) a.month
+terms c is = let a = c.args in terms_lent a.question a.head a.row.now a.month is c.if-months-month.false
 
 -- the row has the chances, the weights and over
 within : (c : Else-wrong-ne0) → let a = c.args in a.head.months + a.head.sizes < length a.row.now
-within c = omega (arith, (facts _ _ (let known : let a = c.args in Taken (record { head = a.head; question = a.question }) a.row.now = taken _ _ (let not_refused : let a = c.args in plain_refusal (record { head = a.head; question = a.question }) a.row.now ≡ 0 = sym c.refusal-wrong.ensures ∙ c.if-wrong-ne0.false in not_refused) in known).accepted).row_is)
+within c = omega (arith, (facts _ _ (known c).accepted).row_is)
 
 small : (c : Else-wrong-ne0) → let h = c.args.head in h.months + h.sizes ≤ max_small_months + max_sizes
-small c = omega (arith, (let known : let a = c.args in Taken (record { head = a.head; question = a.question }) a.row.now = taken _ _ (let not_refused : let a = c.args in plain_refusal (record { head = a.head; question = a.question }) a.row.now ≡ 0 = sym c.refusal-wrong.ensures ∙ c.if-wrong-ne0.false in not_refused) in known).months_few, (head_facts _ (accepted_head _ _ (let known : let a = c.args in Taken (record { head = a.head; question = a.question }) a.row.now = taken _ _ (let not_refused : let a = c.args in plain_refusal (record { head = a.head; question = a.question }) a.row.now ≡ 0 = sym c.refusal-wrong.ensures ∙ c.if-wrong-ne0.false in not_refused) in known).accepted)).sizes_fit)
+small c = omega (arith, (known c).months_few, (head_facts _ (accepted_head _ _ (known c).accepted)).sizes_fit)
 
 pub returns-then-wrong-ne0 : goal.returns-then-wrong-ne0
 returns-then-wrong-ne0 c =
@@ -62,7 +65,10 @@ pub bounds-row-end : goal.bounds-row-end
 bounds-row-end c = within (goal.at.bounds-row-end c).Else-wrong-ne0
 
 pub put_month-requires : goal.put_month-requires
-put_month-requires c = record { small_terms = terms (goal.at.put_month-requires c).Else-months-month; month_in_bounds = le_trans (month_room (terms (goal.at.put_month-requires c).Else-months-month)) c.requires.text_room_in_bounds }
+put_month-requires c =
+    let at = goal.at.put_month-requires c in
+    let here = terms at.Else-months-month (known at.Else-wrong-ne0) in
+    record { small_terms = here; month_in_bounds = le_trans (month_room here) c.requires.text_room_in_bounds }
 
 pub returns : goal.returns
 returns c =

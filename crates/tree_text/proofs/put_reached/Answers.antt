@@ -21,12 +21,14 @@ found c =
     c.leads.ensures ∙ ap (λ (k : ℕ). leads a.question a.severity.now 0 (take a.month a.chances.now) a.left a.level k a.opening) c.claims_to_place-first.ensures
 
 -- the node that is reached
-node : (c : Then-leads) → let a = c.args in node_if a.question (small_plan a.opening a.chances.now a.severity.now a.tail) a.month a.level a.left ≡ node_text a.question a.severity.now a.tail a.month (take (length a.chances.now - a.month) (drop a.month a.chances.now)) a.left a.level
-unfolding reached
-node c =
+node :
+    (c : Then-leads) → let a = c.args in
+    c.leads.result ≡ reached a.question (small_plan a.opening a.chances.now a.severity.now a.tail) a.month a.left a.level →
+    node_if a.question (small_plan a.opening a.chances.now a.severity.now a.tail) a.month a.level a.left
+    ≡ node_text a.question a.severity.now a.tail a.month (take (length a.chances.now - a.month) (drop a.month a.chances.now)) a.left a.level
+node c is =
     let a = c.args in
-    node_on a.question (small_plan a.opening a.chances.now a.severity.now a.tail) a.month a.level a.left (sym (let found : let a = c.args in c.leads.result ≡ reached a.question (small_plan a.opening a.chances.now a.severity.now a.tail) a.month a.left a.level = let a = c.args in
-    c.leads.ensures ∙ ap (λ (k : ℕ). leads a.question a.severity.now 0 (take a.month a.chances.now) a.left a.level k a.opening) c.claims_to_place-first.ensures in found) ∙ c.if-leads.true)
+    node_on a.question (small_plan a.opening a.chances.now a.severity.now a.tail) a.month a.level a.left (sym is ∙ c.if-leads.true)
     ∙ ap (λ (Ps : List ℕ). node_text a.question a.severity.now a.tail a.month Ps a.left a.level) (sym (later_lent a.month a.chances.now))
 
 pub slice_bounds-leads-end : goal.slice_bounds-leads-end
@@ -51,10 +53,16 @@ slice_bounds-put_node-end c = omega (arith, c.requires.small_terms.ended)
 
 pub put_node-requires : goal.put_node-requires
 put_node-requires c =
-    let terms = c.requires.small_terms in record { terms = rw (later_lent c.args.month c.args.chances.now) (node_terms terms c.args.level c.requires.level_bound); month_bound = (omega (arith, terms.ended, terms.months_few), terms.weights_fit); level_in_bounds = omega (arith, c.requires.left_in_bounds, ap length (node (goal.at.put_node-requires c).Then-leads)) }
+    let at = goal.at.put_node-requires c in
+    let terms = c.requires.small_terms in
+    record {
+      terms = rw (later_lent c.args.month c.args.chances.now) (node_terms terms c.args.level c.requires.level_bound);
+      month_bound = (omega (arith, terms.ended, terms.months_few), terms.weights_fit);
+      level_in_bounds = omega (arith, c.requires.left_in_bounds, ap length (node at.Then-leads (found at.After-leads)));
+    }
 
 pub returns-then-leads : goal.returns-then-leads
-returns-then-leads c = appended_as (node (goal.at.returns-then-leads c).Then-leads) c.put_node.ensures
+returns-then-leads c = let at = goal.at.returns-then-leads c in appended_as (node at.Then-leads (found at.After-leads)) c.put_node.ensures
 
 pub returns : goal.returns
 returns c =

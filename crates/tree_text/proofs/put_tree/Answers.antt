@@ -19,13 +19,13 @@ plan c = plan_read c.args.bytes.now c.read_plan-plan.ensures c.if-wrong-ne0.fals
 
 -- its row, as it is lent
 used : (c : After-row_length-used) → c.row_length-used.result ≡ row_length (head_of c.args.bytes.now)
-used c = c.row_length-used.ensures ∙ ap row_length (let plan : PlanRead c.args.bytes.now c.read_plan-plan.result = plan_read c.args.bytes.now c.read_plan-plan.ensures c.if-wrong-ne0.false in plan).head
+used c = c.row_length-used.ensures ∙ ap row_length (plan_read c.args.bytes.now c.read_plan-plan.ensures c.if-wrong-ne0.false).head
 
 row_is : (c : After-row_length-used) → take c.row_length-used.result c.read_plan-plan.result.row ≡ row_of c.args.bytes.now
-row_is c = ap (λ (n : ℕ). take n c.read_plan-plan.result.row) (let used : c.row_length-used.result ≡ row_length (head_of c.args.bytes.now) = c.row_length-used.ensures ∙ ap row_length (let plan : PlanRead c.args.bytes.now c.read_plan-plan.result = plan_read c.args.bytes.now c.read_plan-plan.ensures c.if-wrong-ne0.false in plan).head in used) ∙ (let plan : PlanRead c.args.bytes.now c.read_plan-plan.result = plan_read c.args.bytes.now c.read_plan-plan.ensures c.if-wrong-ne0.false in plan).row
+row_is c = ap (λ (n : ℕ). take n c.read_plan-plan.result.row) (used c) ∙ (plan_read c.args.bytes.now c.read_plan-plan.ensures c.if-wrong-ne0.false).row
 
-row-long : (c : After-row_length-used) → length (take c.row_length-used.result c.read_plan-plan.result.row) ≡ c.row_length-used.result
-row-long c = ap length (let row_is : take c.row_length-used.result c.read_plan-plan.result.row ≡ row_of c.args.bytes.now = ap (λ (n : ℕ). take n c.read_plan-plan.result.row) (let used : c.row_length-used.result ≡ row_length (head_of c.args.bytes.now) = c.row_length-used.ensures ∙ ap row_length (let plan : PlanRead c.args.bytes.now c.read_plan-plan.result = plan_read c.args.bytes.now c.read_plan-plan.ensures c.if-wrong-ne0.false in plan).head in used) ∙ (let plan : PlanRead c.args.bytes.now c.read_plan-plan.result = plan_read c.args.bytes.now c.read_plan-plan.ensures c.if-wrong-ne0.false in plan).row in row_is) ∙ (facts _ _ (let plan : PlanRead c.args.bytes.now c.read_plan-plan.result = plan_read c.args.bytes.now c.read_plan-plan.ensures c.if-wrong-ne0.false in plan).accepted).row_is ∙ sym (let used : c.row_length-used.result ≡ row_length (head_of c.args.bytes.now) = c.row_length-used.ensures ∙ ap row_length (let plan : PlanRead c.args.bytes.now c.read_plan-plan.result = plan_read c.args.bytes.now c.read_plan-plan.ensures c.if-wrong-ne0.false in plan).head in used)
+row_long : (c : After-row_length-used) → length (take c.row_length-used.result c.read_plan-plan.result.row) ≡ c.row_length-used.result
+row_long c = ap length (row_is c) ∙ (facts _ _ (plan_read c.args.bytes.now c.read_plan-plan.ensures c.if-wrong-ne0.false).accepted).row_is ∙ sym (used c)
 
 pub returns-then-wrong-ne0 : goal.returns-then-wrong-ne0
 returns-then-wrong-ne0 c =
@@ -39,10 +39,10 @@ row_length-used-requires c =
 
 pub slice_bounds-row-end : goal.slice_bounds-row-end
 slice_bounds-row-end c =
-    omega (arith, row-long (goal.at.slice_bounds-row-end c).After-row_length-used, length-take c.row_length-used.result c.read_plan-plan.result.row)
+    omega (arith, row_long (goal.at.slice_bounds-row-end c).After-row_length-used, length-take c.row_length-used.result c.read_plan-plan.result.row)
 
 pub slice_bounds-put_plan-end : goal.slice_bounds-put_plan-end
-slice_bounds-put_plan-end c = sym (row-long (goal.at.slice_bounds-put_plan-end c).After-row_length-used)
+slice_bounds-put_plan-end c = sym (row_long (goal.at.slice_bounds-put_plan-end c).After-row_length-used)
 
 pub put_plan-requires : goal.put_plan-requires
 put_plan-requires c =
