@@ -7,20 +7,14 @@ use Rattle.engine.proofs.AnswerLaws.{terms_lent}
 use Rattle.test_vectors.proofs.sums.add.Goals as goal
 use Rattle.test_vectors.proofs.sums.add.Goals.{Start}
 
-known : (c : Start) → Facts s.args.head s.args.row.now
-known c = facts s.args.head s.args.row.now s.requires
+known : (c : Start) → Facts c.args.head c.args.row.now
+known c = facts c.args.head c.args.row.now c.requires
 
 pub overflow_add-end : goal.overflow_add-end
 overflow_add-end c = omega (arith, (known (goal.at.overflow_add-end c).Start).head)
 
-pub lesser-values-requires : goal.lesser-values-requires
-lesser-values-requires c = tt
-
 pub offset_bounds-row-months : goal.offset_bounds-row-months
 offset_bounds-row-months c = omega (arith, (known (goal.at.offset_bounds-row-months c).Start).head)
-
-pub slice_bounds-list-count : goal.slice_bounds-list-count
-slice_bounds-list-count c = omega arith
 
 pub slice_bounds-list-start : goal.slice_bounds-list-start
 slice_bounds-list-start c = omega (arith, (known (goal.at.slice_bounds-list-start c).Start).row_is)
@@ -35,6 +29,3 @@ slice_bounds-list-end-2 c =
 pub list-requires : goal.list-requires
 list-requires c =
     terms_lent c.args.head c.args.row.now (known (goal.at.list-requires c).Start) c.lesser-values.result
-
-pub returns : goal.returns
-returns c = tt
