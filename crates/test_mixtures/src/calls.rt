@@ -2,8 +2,7 @@
 ghost use Rattle.std.specs.Prelude.{◌*◌, ◌≤◌, length};
 
 use crate::record::Record;
-use crate::{figures, record, rooms, text};
-use libc::STDIN_FILENO;
+use crate::{STDIN_FILENO, figures, record, rooms, text};
 
 // Whether there was room for the row, and all of it in the input.
 pub fn read_row(record: Record) -> bool {

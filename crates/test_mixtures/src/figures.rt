@@ -2,8 +2,8 @@
 ghost use Rattle.std.specs.Prelude.{◌≡◌};
 ghost use Rattle.test_mixtures.specs.Rounded.{ten_millionths};
 
+use crate::STDOUT_FILENO;
 use engine::Answer;
-use libc::STDOUT_FILENO;
 use model::WIDE_SCALE;
 
 // One in ten-millionths, and the first of its 7 places.

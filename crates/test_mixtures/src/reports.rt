@@ -1,6 +1,5 @@
 // The report of a mix's bytes.
-use crate::rooms;
-use libc::{STDIN_FILENO, STDOUT_FILENO};
+use crate::{STDIN_FILENO, STDOUT_FILENO, rooms};
 
 // Whether there was room for the bytes, and all of them in the input.
 pub fn read_bytes(length: usize) -> bool {

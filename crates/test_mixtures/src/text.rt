@@ -1,7 +1,7 @@
 // The line of a call: the refusal's number, the two bounds, and a checksum of the lent workspace after it.
+use crate::STDOUT_FILENO;
 use checksums::checksum;
 use engine::Answer;
-use libc::STDOUT_FILENO;
 
 pub fn line(answer: Answer, workspace: &[u32]) {
     io::print_decimal(STDOUT_FILENO, answer.refusal as u64);

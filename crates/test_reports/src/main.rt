@@ -2,8 +2,12 @@
 // as two bytes with its length, most significant first, and its bytes.
 #![tactic(auto)]
 
-use libc::{STDIN_FILENO, STDOUT_FILENO};
 use numbers::big_endian;
+
+// The descriptors that every program is started with.
+const STDIN_FILENO: i32 = 0;
+
+const STDOUT_FILENO: i32 = 1;
 
 fn main() {
     let mut plans = io::large_buffer();

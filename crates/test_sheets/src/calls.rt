@@ -2,7 +2,7 @@
 ghost use Rattle.std.specs.Prelude.{◌≡◌, length, replicate};
 ghost use Rattle.test_sheets.specs.Rooms.{row_capacity, byte_capacity};
 
-use libc::STDOUT_FILENO;
+use crate::STDOUT_FILENO;
 use model::limits;
 use numbers::{index, wide};
 

@@ -5,11 +5,15 @@
 ghost use Rattle.std.specs.Prelude.{◌≡◌};
 ghost use Rattle.test_tables.specs.Rounded.{ten_thousandths};
 
-use libc::{STDIN_FILENO, STDOUT_FILENO};
 use model::{Ask, Head, Question, limits};
 use numbers::big_endian;
 use plan::lengths::row_length;
 use rooms::blank_row;
+
+// The descriptors that every program is started with.
+const STDIN_FILENO: i32 = 0;
+
+const STDOUT_FILENO: i32 = 1;
 
 // A proved loop has to end, and nothing says that the input does, so the plans are counted.
 fn main() {

@@ -2,9 +2,13 @@
 // length, most significant first, and its bytes: one for the question, four with its number, and the plan's.
 #![tactic(auto)]
 
-use libc::{STDIN_FILENO, STDOUT_FILENO};
 use model::Question;
 use numbers::big_endian;
+
+// The descriptors that every program is started with.
+const STDIN_FILENO: i32 = 0;
+
+const STDOUT_FILENO: i32 = 1;
 
 // What comes before the plan's bytes.
 const ASKED: usize = 5;

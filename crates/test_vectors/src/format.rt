@@ -31,7 +31,7 @@ pub fn read(record: Record) {
 
 // Takes the plan's bytes from the input first.
 fn read_from(record: Record, bytes: &mut [u8]) {
-    io::read_full(libc::STDIN_FILENO, bytes);
+    io::read_full(crate::STDIN_FILENO, bytes);
     let room = record.room;
     let fill = record.fill;
     let mut row = record::row(fill);

@@ -15,6 +15,11 @@ ghost use Rattle.test_vectors.specs.Rooms.{used_after};
 
 use record::Record;
 
+// The descriptors that every program is started with.
+const STDIN_FILENO: i32 = 0;
+
+const STDOUT_FILENO: i32 = 1;
+
 fn main() {
     let mut row = record::row(0);
     play(&mut row);

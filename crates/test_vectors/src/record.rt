@@ -26,7 +26,7 @@ pub struct Record {
 
 pub fn next() -> Record {
     let mut words = [0u8; 72];
-    let got = io::read_full(libc::STDIN_FILENO, &mut words);
+    let got = io::read_full(crate::STDIN_FILENO, &mut words);
     let record = decode(&words);
     if got == 72 { record } else { ended(record) }
 }
@@ -106,7 +106,7 @@ pub fn read_row(count: usize, row: &mut [u32]) -> usize
 fn read_numbers(bytes: &mut [u8], row: &mut [u32])
     requires { 4 * length row.old ≤ length bytes.old }
 {
-    io::read_full(libc::STDIN_FILENO, bytes);
+    io::read_full(crate::STDIN_FILENO, bytes);
     unpack(bytes, row);
 }
 

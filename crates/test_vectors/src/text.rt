@@ -4,16 +4,16 @@ use model::limits::PLACES;
 use numbers::{index, wide};
 
 pub fn first(x: u64) {
-    io::print_decimal(libc::STDOUT_FILENO, x);
+    io::print_decimal(crate::STDOUT_FILENO, x);
 }
 
 pub fn next(x: u64) {
-    io::write_all(libc::STDOUT_FILENO, b" ");
-    io::print_decimal(libc::STDOUT_FILENO, x);
+    io::write_all(crate::STDOUT_FILENO, b" ");
+    io::print_decimal(crate::STDOUT_FILENO, x);
 }
 
 pub fn end() {
-    io::write_all(libc::STDOUT_FILENO, b"\n");
+    io::write_all(crate::STDOUT_FILENO, b"\n");
 }
 
 // Both bounds of each place.
@@ -30,8 +30,8 @@ pub fn count_row(lower: &[u32; PLACES], upper: &[u32; PLACES]) {
 pub fn bytes(memory: &[u8]) {
     let mut i = 0;
     while i < memory.len() {
-        io::write_all(libc::STDOUT_FILENO, b" ");
-        io::print_hex(libc::STDOUT_FILENO, index(memory[i]) as u64, 2);
+        io::write_all(crate::STDOUT_FILENO, b" ");
+        io::print_hex(crate::STDOUT_FILENO, index(memory[i]) as u64, 2);
         i += 1;
     }
 }

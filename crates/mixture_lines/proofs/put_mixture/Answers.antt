@@ -1,12 +1,10 @@
 -- `put_mixture` meets its contract: the head line and the groups of lines, one after another.
-use Prim.Native.Nat.{ℕ, ◌+◌}
+use Prim.Native.Nat.{◌+◌}
 use mathlib.Core.Path.{◌∙◌}
-use mathlib.Core.List.{List}
 use native.Mathlib.Omega.{arith}
 use Rattle.model.specs.declared.Question.TheVariants.{Survive, Both, High, Low}
-use Rattle.model.proofs.Facts.{HeadFacts, head_facts}
+use Rattle.model.proofs.Facts.{head_facts}
 use Rattle.text.proofs.TextLaws.{appended_more}
-use Rattle.mixture_plans.specs.Refusal.{plans_head}
 use Rattle.report_lines.specs.Asking.{Cleared}
 use Rattle.report_lines.proofs.AskingLaws.{cleared_more, cleared_long}
 use Rattle.report_lines.proofs.LineLaws.{head_ends}
@@ -15,62 +13,88 @@ use Rattle.report_groups.proofs.GroupLaws.{Leaves, group_leaves}
 use Rattle.mixture_lines.specs.Lines.{mixture_report, mixture_needs}
 use Rattle.mixture_lines.proofs.AskingLaws.{mixture_short, head_ok, answerable_still}
 use Rattle.mixture_lines.proofs.put_mixture.Goals as goal
-use Rattle.mixture_lines.proofs.put_mixture.Goals.{After-put_group, After-put_group-end, After-put_group-end-2, After-put_group-end-3, After-put_head-end, Start}
-
-known : (c : Start) → HeadFacts (plans_head s.args.mixture)
-known c = head_facts _ (head_ok s.requires.0)
+use Rattle.mixture_lines.proofs.put_mixture.Goals.{After-put_head-end, After-put_group-end, After-put_group-end-2, After-put_group-end-3, After-put_group}
 
 -- the room that each call leaves
-abbrev LeavesOf : Start → List ℕ → ℕ → ℕ → Type 0
-LeavesOf c text end lines = Leaves s.args.text.now text end lines
-
-after_head : (c : After-put_head-end) → LeavesOf c c.put_head-end.new.text c.put_head-end.result (most_lines Survive + most_lines (Both 0) + most_lines (High 0) + most_lines (Low 0))
+after_head :
+    (c : After-put_head-end) → Leaves c.args.text.now c.put_head-end.new.text c.put_head-end.result (most_lines Survive + most_lines (Both 0) + most_lines (High 0) + most_lines (Low 0))
 after_head c = record { long = c.put_head-end.auto.text; room = omega (arith, head_ends _ c.put_head-end.ensures, c.requires.mixture_text_room_in_bounds) }
 
-after-survive : (c : After-put_group-end) → LeavesOf c c.put_group-end.new.text c.put_group-end.result (most_lines (Both 0) + most_lines (High 0) + most_lines (Low 0))
-after-survive c =
-    group_leaves _ _ Survive _ (mixture_short _) (let known : HeadFacts (plans_head s.args.mixture) = head_facts _ (head_ok s.requires.0) in known) (let after_head : LeavesOf c c.put_head-end.new.text c.put_head-end.result (most_lines Survive + most_lines (Both 0) + most_lines (High 0) + most_lines (Low 0)) = record { long = c.put_head-end.auto.text; room = omega (arith, head_ends _ c.put_head-end.ensures, c.requires.mixture_text_room_in_bounds) } in after_head) (omega arith) c.put_group-end.auto.text c.put_group-end.ensures.written
+after_survive :
+    (c : After-put_group-end) → let a = c.args in
+    Leaves a.text.now c.put_head-end.new.text c.put_head-end.result (most_lines Survive + most_lines (Both 0) + most_lines (High 0) + most_lines (Low 0)) →
+    Leaves a.text.now c.put_group-end.new.text c.put_group-end.result (most_lines (Both 0) + most_lines (High 0) + most_lines (Low 0))
+after_survive c left =
+    group_leaves _ _ Survive _ (mixture_short _) (head_facts _ (head_ok c.requires.mixture_answerable)) left (omega arith) c.put_group-end.auto.text c.put_group-end.ensures.written
 
-after_both : (c : After-put_group-end-2) → LeavesOf c c.put_group-end-2.new.text c.put_group-end-2.result (most_lines (High 0) + most_lines (Low 0))
-after_both c =
-    group_leaves _ _ (Both 0) _ (mixture_short _) (let known : HeadFacts (plans_head s.args.mixture) = head_facts _ (head_ok s.requires.0) in known) (let after_survive : LeavesOf c c.put_group-end.new.text c.put_group-end.result (most_lines (Both 0) + most_lines (High 0) + most_lines (Low 0)) = group_leaves _ _ Survive _ (mixture_short _) (let known : HeadFacts (plans_head s.args.mixture) = head_facts _ (head_ok s.requires.0) in known) (let after_head : LeavesOf c c.put_head-end.new.text c.put_head-end.result (most_lines Survive + most_lines (Both 0) + most_lines (High 0) + most_lines (Low 0)) = record { long = c.put_head-end.auto.text; room = omega (arith, head_ends _ c.put_head-end.ensures, c.requires.mixture_text_room_in_bounds) } in after_head) (omega arith) c.put_group-end.auto.text c.put_group-end.ensures.written in after_survive) (omega arith) c.put_group-end-2.auto.text c.put_group-end-2.ensures.written
+after_both :
+    (c : After-put_group-end-2) → let a = c.args in
+    Leaves a.text.now c.put_group-end.new.text c.put_group-end.result (most_lines (Both 0) + most_lines (High 0) + most_lines (Low 0)) →
+    Leaves a.text.now c.put_group-end-2.new.text c.put_group-end-2.result (most_lines (High 0) + most_lines (Low 0))
+after_both c left =
+    group_leaves _ _ (Both 0) _ (mixture_short _) (head_facts _ (head_ok c.requires.mixture_answerable)) left (omega arith) c.put_group-end-2.auto.text c.put_group-end-2.ensures.written
 
-after-high : (c : After-put_group-end-3) → LeavesOf c c.put_group-end-3.new.text c.put_group-end-3.result (most_lines (Low 0))
-after-high c =
-    group_leaves _ _ (High 0) _ (mixture_short _) (let known : HeadFacts (plans_head s.args.mixture) = head_facts _ (head_ok s.requires.0) in known) (let after_both : LeavesOf c c.put_group-end-2.new.text c.put_group-end-2.result (most_lines (High 0) + most_lines (Low 0)) = group_leaves _ _ (Both 0) _ (mixture_short _) (let known : HeadFacts (plans_head s.args.mixture) = head_facts _ (head_ok s.requires.0) in known) (let after_survive : LeavesOf c c.put_group-end.new.text c.put_group-end.result (most_lines (Both 0) + most_lines (High 0) + most_lines (Low 0)) = group_leaves _ _ Survive _ (mixture_short _) (let known : HeadFacts (plans_head s.args.mixture) = head_facts _ (head_ok s.requires.0) in known) (let after_head : LeavesOf c c.put_head-end.new.text c.put_head-end.result (most_lines Survive + most_lines (Both 0) + most_lines (High 0) + most_lines (Low 0)) = record { long = c.put_head-end.auto.text; room = omega (arith, head_ends _ c.put_head-end.ensures, c.requires.mixture_text_room_in_bounds) } in after_head) (omega arith) c.put_group-end.auto.text c.put_group-end.ensures.written in after_survive) (omega arith) c.put_group-end-2.auto.text c.put_group-end-2.ensures.written in after_both) (omega arith) c.put_group-end-3.auto.text c.put_group-end-3.ensures.written
+after_high :
+    (c : After-put_group-end-3) → let a = c.args in
+    Leaves a.text.now c.put_group-end-2.new.text c.put_group-end-2.result (most_lines (High 0) + most_lines (Low 0)) →
+    Leaves a.text.now c.put_group-end-3.new.text c.put_group-end-3.result (most_lines (Low 0))
+after_high c left =
+    group_leaves _ _ (High 0) _ (mixture_short _) (head_facts _ (head_ok c.requires.mixture_answerable)) left (omega arith) c.put_group-end-3.auto.text c.put_group-end-3.ensures.written
 
 -- and what all of them leave of the workspace
-all-cleared : (c : After-put_group) → Cleared (mixture_needs c.args.mixture) c.args.workspace.now c.put_group.new.workspace
-all-cleared c =
+all_cleared : (c : After-put_group) → Cleared (mixture_needs c.args.mixture) c.args.workspace.now c.put_group.new.workspace
+all_cleared c =
     cleared_more (cleared_more (cleared_more c.put_group-end.ensures.cleared c.put_group-end-2.ensures.cleared) c.put_group-end-3.ensures.cleared) c.put_group.ensures.cleared
 
 pub put_group-end-requires : goal.put_group-end-requires
-put_group-end-requires c = record { mixture_answerable = c.requires.mixture_answerable; line_room_in_bounds = omega (arith, (after_head (goal.at.put_group-end-requires c).After-put_head-end).long, (after_head (goal.at.put_group-end-requires c).After-put_head-end).room) }
+put_group-end-requires c =
+    let left = after_head (goal.at.put_group-end-requires c).After-put_head-end in
+    record { mixture_answerable = c.requires.mixture_answerable; line_room_in_bounds = omega (arith, left.long, left.room) }
 
 pub put_group-end-requires-2 : goal.put_group-end-requires-2
 put_group-end-requires-2 c =
-    let left = after-survive (goal.at.put_group-end-requires-2 c).After-put_group-end in record { mixture_answerable = answerable_still c.requires.mixture_answerable c.put_group-end.ensures.cleared; line_room_in_bounds = omega (arith, left.long, left.room) }
+    let at = goal.at.put_group-end-requires-2 c in
+    let left = after_survive at.After-put_group-end (after_head at.After-put_head-end) in
+    record { mixture_answerable = answerable_still c.requires.mixture_answerable c.put_group-end.ensures.cleared; line_room_in_bounds = omega (arith, left.long, left.room) }
 
 pub put_group-end-requires-3 : goal.put_group-end-requires-3
 put_group-end-requires-3 c =
-    let left = after_both (goal.at.put_group-end-requires-3 c).After-put_group-end-2 in record { mixture_answerable = answerable_still (answerable_still c.requires.mixture_answerable c.put_group-end.ensures.cleared) c.put_group-end-2.ensures.cleared; line_room_in_bounds = omega (arith, left.long, left.room) }
+    let at = goal.at.put_group-end-requires-3 c in
+    let left = after_both at.After-put_group-end-2 (after_survive at.After-put_group-end (after_head at.After-put_head-end)) in
+    record {
+      mixture_answerable = answerable_still (answerable_still c.requires.mixture_answerable c.put_group-end.ensures.cleared) c.put_group-end-2.ensures.cleared;
+      line_room_in_bounds = omega (arith, left.long, left.room);
+    }
 
 pub put_group-requires : goal.put_group-requires
 put_group-requires c =
-    let left = after-high (goal.at.put_group-requires c).After-put_group-end-3 in record { mixture_answerable = answerable_still
+    let at = goal.at.put_group-requires c in
+    let left = after_high at.After-put_group-end-3 (after_both at.After-put_group-end-2 (after_survive at.After-put_group-end (after_head at.After-put_head-end))) in
+    record {
+      mixture_answerable =
+          answerable_still
           (answerable_still (answerable_still c.requires.mixture_answerable c.put_group-end.ensures.cleared) c.put_group-end-2.ensures.cleared)
-          c.put_group-end-3.ensures.cleared; line_room_in_bounds = omega (arith, left.long, left.room) }
+          c.put_group-end-3.ensures.cleared;
+      line_room_in_bounds = omega (arith, left.long, left.room);
+    }
 
 pub shape_of-text : goal.shape_of-text
-shape_of-text c = c.put_group.auto.text ∙ (after-high (goal.at.shape_of-text c).After-put_group-end-3).long
+shape_of-text c =
+    let at = goal.at.shape_of-text c in
+    c.put_group.auto.text ∙ (after_high at.After-put_group-end-3 (after_both at.After-put_group-end-2 (after_survive at.After-put_group-end (after_head at.After-put_head-end)))).long
 
 pub shape_of-workspace : goal.shape_of-workspace
-shape_of-workspace c = cleared_long c.requires.mixture_answerable.room (all-cleared (goal.at.shape_of-workspace c).After-put_group)
+shape_of-workspace c = cleared_long c.requires.mixture_answerable.room (all_cleared (goal.at.shape_of-workspace c).After-put_group)
 
 pub returns : goal.returns
 unfolding mixture_report
-returns c = record { written = appended_more
+returns c =
+    record {
+      written =
+          appended_more
           (appended_more
           (appended_more (appended_more c.put_head-end.ensures c.put_group-end.ensures.written) c.put_group-end-2.ensures.written)
           c.put_group-end-3.ensures.written)
-          c.put_group.ensures.written; cleared = all-cleared (goal.at.returns c).After-put_group }
+          c.put_group.ensures.written;
+      cleared = all_cleared (goal.at.returns c).After-put_group;
+    }

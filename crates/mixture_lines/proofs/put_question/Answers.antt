@@ -9,4 +9,8 @@ pub returns : goal.returns
 unfolding mixture_line
 returns c =
     let pre = c.requires in
-    let answer = c.ask-bounds.ensures.answered ∙ asked pre.0 _ pre.1.0 in record { written = rw (← ap (λ (a : Answer). a.lower) answer, ← ap (λ (a : Answer). a.upper) answer) c.put_bounds.ensures; cleared = asked_clears pre.0 _ pre.1.0 c.ask-bounds.ensures.cleared }
+    let answer = c.ask-bounds.ensures.answered ∙ asked pre.mixture_answerable _ pre.question_value in
+    record {
+      written = rw (← ap (λ (a : Answer). a.lower) answer, ← ap (λ (a : Answer). a.upper) answer) c.put_bounds.ensures;
+      cleared = asked_clears pre.mixture_answerable _ pre.question_value c.ask-bounds.ensures.cleared;
+    }

@@ -12,7 +12,7 @@ read c = c.read_mixture-read.ensures.read c.if-refusal-ne0.false
 
 pub returns-then-refusal-ne0 : goal.returns-then-refusal-ne0
 returns-then-refusal-ne0 c =
-    let number = c.read_mixture-read.ensures.number in record { written = rw (report_refused _ (λ z. c.if-refusal-ne0.true (number ∙ z)), ← number) c.Put-refused.ensures; cleared = rw (needs_refused _ (λ z. c.if-refusal-ne0.true (number ∙ z))) (nothing_cleared _) }
+    let number = c.read_mixture-read.ensures.number in record { written = rw (report_refused _ (λ z. c.if-refusal-ne0.true (number ∙ z)), ← number) c.put_refused.ensures; cleared = rw (needs_refused _ (λ z. c.if-refusal-ne0.true (number ∙ z))) (nothing_cleared _) }
 
 pub put_accepted-requires : goal.put_accepted-requires
 put_accepted-requires c =
