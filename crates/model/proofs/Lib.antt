@@ -14,7 +14,9 @@ pub mod FirstRuin
 pub mod Questions
 pub mod Counts
 pub mod Moves
+pub mod MonthMoves
 pub mod Rising
+pub mod RisingMonths
 pub mod Filling
 pub mod MemoryLaws
 pub mod FirstClaimLaw

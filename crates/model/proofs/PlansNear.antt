@@ -24,7 +24,8 @@ use Rattle.model.proofs.Distances.{apart_none, apart_more, apart_append}
 use Rattle.model.proofs.Values.{kept_rel, take_fits, last_fits}
 use Rattle.model.proofs.FirstRuin.{ruin_weight_fits}
 use Rattle.model.proofs.Counts.{no_months_fit}
-use Rattle.model.proofs.Moves.{Near, Moving, CountMoving, near_nothing, near_times, near_quotient, exact_moving, rounded_moving, values_move, exact_count_moving, rounded_count_moving, after_months_move, ruin_moving}
+use Rattle.model.proofs.Moves.{Near, near_nothing, near_times, near_quotient}
+use Rattle.model.proofs.MonthMoves.{Moving, CountMoving, exact_moving, rounded_moving, values_move, exact_count_moving, rounded_count_moving, after_months_move, ruin_moving}
 use Rattle.model.proofs.Month.{scale_positive}
 use Rattle.model.proofs.Theorems.{months_around, chances_fit, chance_fits, severity_fits, weights_fit, one_month_more, unrounded, unrounded_count, unrounded_ruin, exact_before}
 

@@ -19,7 +19,8 @@ use Rattle.model.specs.Refusal.{Accepted}
 use Rattle.model.proofs.Distances.{distance_le, within_distance, apart_comm}
 use Rattle.model.proofs.Moves.{Near}
 use Rattle.model.proofs.Month.{scale_positive}
-use Rattle.model.proofs.Rising.{Rising, exact_month_rises, month_rises, values_rise}
+use Rattle.model.proofs.Rising.{Rising, exact_month_rises}
+use Rattle.model.proofs.RisingMonths.{month_rises, values_rise}
 use Rattle.model.proofs.Theorems.{positive, unrounded, enclosure, count_enclosure, ruin_enclosure}
 use Rattle.model.proofs.PlansNear.{Pair, turned, exact_near, bound_near, exact_count_near, count_row_near, exact_ruin_near, ruin_bound_near}
 

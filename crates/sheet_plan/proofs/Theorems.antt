@@ -198,20 +198,22 @@ module _ (bytes : List ℕ) (long : sheet_length < length bytes) where
   long_memory lent = kept _ _ _ lent (λ z. omega (arith, too_long (byte_length (plan_head bytes)) (length lent), z))
 
 -- so a first part that is longer than a sheet answers for all of it
-module _ (bytes : List ℕ) (k : ℕ) (longer : sheet_length < k) where
-  cut : (length bytes ≤ k → take k bytes ≡ bytes) × (k ≤ length bytes → sheet_length < length (take k bytes))
-  cut = (λ l. take_all k bytes l, λ l. simp length-take (omega arith))
+cut :
+    (bytes : List ℕ) (k : ℕ) → sheet_length < k
+    → (length bytes ≤ k → take k bytes ≡ bytes) × (k ≤ length bytes → sheet_length < length (take k bytes))
+cut bytes k longer = (λ l. take_all k bytes l, λ l. simp length-take (omega arith))
 
+module _ (bytes : List ℕ) (k : ℕ) (longer : sheet_length < k) where
   pub beyond_answer : (room : ℕ) → plan_answer (take k bytes) room ≡ plan_answer bytes room
   beyond_answer room =
       ⊎_elim
-      (λ l. long_answer (take k bytes) (cut.1 (omega arith)) room ∙ sym (long_answer bytes (omega arith) room))
-      (λ l. ap (λ b. plan_answer b room) (cut.0 l))
+      (λ l. long_answer (take k bytes) ((cut bytes k (omega arith)).1 (omega arith)) room ∙ sym (long_answer bytes (omega arith) room))
+      (λ l. ap (λ b. plan_answer b room) ((cut bytes k (omega arith)).0 l))
       (below_or_not k (length bytes))
 
   pub beyond_memory : (lent : List ℕ) → plan_bytes_after (take k bytes) lent ≡ plan_bytes_after bytes lent
   beyond_memory lent =
       ⊎_elim
-      (λ l. long_memory (take k bytes) (cut.1 (omega arith)) lent ∙ sym (long_memory bytes (omega arith) lent))
-      (λ l. ap (λ b. plan_bytes_after b lent) (cut.0 l))
+      (λ l. long_memory (take k bytes) ((cut bytes k (omega arith)).1 (omega arith)) lent ∙ sym (long_memory bytes (omega arith) lent))
+      (λ l. ap (λ b. plan_bytes_after b lent) ((cut bytes k (omega arith)).0 l))
       (below_or_not k (length bytes))

@@ -18,7 +18,7 @@ use Rattle.model.specs.Limits.{small_income, max_small_months, max_small_opening
 use Rattle.model.specs.Scale.{S}
 use Rattle.model.specs.Sums.{total, count}
 use Rattle.model.specs.Plan.{nth}
-use Rattle.model.specs.MonthRule.{rule_of, last_of, claims_of, opening_allowed, ruin_weight, month}
+use Rattle.model.specs.MonthRule.{rule_of, last_of, claims_of, opening_allowed, ruin_weight}
 use Rattle.model.proofs.SumLaws.{count_append}
 use Rattle.model.proofs.Month.{nth_le_total}
 use Rattle.model.proofs.Values.{kept_fits, values_fit, last_fits}

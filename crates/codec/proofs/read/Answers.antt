@@ -68,8 +68,11 @@ decoded c =
     (length-take-le _ _ fits ∙ count)
 
 pub returns : goal.returns
-returns c = record { answer = ap₂ read_as c.if-wrong-ne0.false c.head_of-head.ensures ∙ sym (head_answered _ _ (none (goal.at.returns c).Else-wrong-ne0)); memory = ap₂ (λ l n. l ++ drop n c.args.row.now) (decoded (goal.at.returns c).After-decode) (count_is (goal.at.returns c).After-row_length-count)
-          ∙ sym (filled _ _ _ _ (none (goal.at.returns c).Else-wrong-ne0)) }
+returns c = record {
+  answer = ap₂ read_as c.if-wrong-ne0.false c.head_of-head.ensures ∙ sym (head_answered _ _ (none (goal.at.returns c).Else-wrong-ne0));
+  memory = ap₂ (λ l n. l ++ drop n c.args.row.now) (decoded (goal.at.returns c).After-decode) (count_is (goal.at.returns c).After-row_length-count)
+      ∙ sym (filled _ _ _ _ (none (goal.at.returns c).Else-wrong-ne0));
+}
 
 pub decode-requires : goal.decode-requires
 decode-requires c =

@@ -1,6 +1,6 @@
 use mathlib.Core.Path.{◌≡◌, refl}
 use mathlib.Core.Bool.{false}
-use Prim.Native.Nat.{◌+◌, ◌-◌}
+use Prim.Native.Nat.{◌+◌}
 use native.Mathlib.Omega.{arith}
 use borrow.Author.Rules.{rules}
 use Rattle.model.specs.declared.Question.TheVariants.{Survive}
@@ -45,5 +45,8 @@ shape_of-workspace c = cleared_long c.requires.answerable.room c.loop-i.invarian
 pub returns : goal.returns
 returns c =
     let all : c.loop-i.i ≡ c.args.head.months =
-    omega (arith, c.loop-i-test.false, c.loop-i.invariant.1, c.loop-i.invariant.0.text_so_far.turns) in record { written = ruins_done c.args.head c.args.row.now c.requires.answerable.accepted c.loop-i.invariant.0
-          (omega (arith, c.loop-i-test.false, c.loop-i.invariant.1)) c.put_line.ensures; cleared = cleared_all (λ _. question_needs c.args.head Survive) all c.loop-i.invariant.0.left }
+    omega (arith, c.loop-i-test.false, c.loop-i.invariant.1, c.loop-i.invariant.0.text_so_far.turns) in record {
+      written = ruins_done c.args.head c.args.row.now c.requires.answerable.accepted c.loop-i.invariant.0
+          (omega (arith, c.loop-i-test.false, c.loop-i.invariant.1)) c.put_line.ensures;
+      cleared = cleared_all (λ _. question_needs c.args.head Survive) all c.loop-i.invariant.0.left;
+    }

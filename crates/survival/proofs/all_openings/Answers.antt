@@ -75,11 +75,15 @@ slice_bounds-put_openings-end-6 c = omega (arith, (fits (goal.at.slice_bounds-pu
 pub put_openings-requires : goal.put_openings-requires
 put_openings-requires c =
     let a = c.args in
-    let months = length-take-le a.head.months a.row.now (omega (arith, (fits (goal.at.put_openings-requires c).Else-refusal-ne0).row_is)) in record { bounds_len = length-take-le (2 * (a.head.opening + 1)) a.bounds.now (known (goal.at.put_openings-requires c).Else-refusal-ne0).wide; income_nonzero = (
-          (fits (goal.at.put_openings-requires c).Else-refusal-ne0).head.income_some,
-          length-take-le (2 * c.row_levels-needed.result) a.workspace.now (enough (goal.at.put_openings-requires c).After-row_levels-needed)
-              ∙ ap (λ n. 2 * n) (c.row_levels-needed.ensures ∙ ap (λ n. row_levels a.head.income a.head.opening n) (sym months)),
-        ); plan_terms = terms_lent a.head a.row.now (fits (goal.at.put_openings-requires c).Else-refusal-ne0) a.head.months }
+    let months = length-take-le a.head.months a.row.now (omega (arith, (fits (goal.at.put_openings-requires c).Else-refusal-ne0).row_is)) in record {
+      bounds_len = length-take-le (2 * (a.head.opening + 1)) a.bounds.now (known (goal.at.put_openings-requires c).Else-refusal-ne0).wide;
+      income_nonzero = (
+        (fits (goal.at.put_openings-requires c).Else-refusal-ne0).head.income_some,
+        length-take-le (2 * c.row_levels-needed.result) a.workspace.now (enough (goal.at.put_openings-requires c).After-row_levels-needed)
+            ∙ ap (λ n. 2 * n) (c.row_levels-needed.ensures ∙ ap (λ n. row_levels a.head.income a.head.opening n) (sym months)),
+      );
+      plan_terms = terms_lent a.head a.row.now (fits (goal.at.put_openings-requires c).Else-refusal-ne0) a.head.months;
+    }
 
 pub returns : goal.returns
 returns c =

@@ -1,6 +1,5 @@
 use native.Mathlib.Omega.{arith}
 use borrow.Author.Rules.{rules}
-use Prim.Native.Nat.{◌-◌}
 use Rattle.text.specs.Text.{entry}
 use Rattle.text.proofs.TextLaws.{appended_more, appending_start, appending_room, appending_turn, appending_done, entry_length}
 use Rattle.text.proofs.put_entry.Goals as goal

@@ -1,6 +1,5 @@
 use borrow.Author.Rules.{rules}
 use native.Mathlib.Omega.{arith}
-use Prim.Native.Nat.{◌-◌}
 use Rattle.text.proofs.TextLaws.{appending_start, appending_room_each, appending_turn, appending_done, bytes_are}
 use Rattle.text.proofs.put_word.Goals as goal
 

@@ -44,8 +44,11 @@ least_lower-found-requires c =
 pub returns-then-opening-least : goal.returns-then-opening-least
 returns-then-opening-least c =
     let a = c.args in
-    let found = c.least_lower-found in record { answered = none_found a.income a.severity.now a.opening a.chances.now a.target found.result.opening
-          (found_opening a.income a.severity.now a.opening a.chances.now a.target found.result found.ensures.found) c.if-opening-least.true c.refused.result c.refused.ensures; cleared = zero_still (length a.workspace.now) (c.args.opening + c.args.income * length c.args.chances.now + 1) (omega (arith, (halves (goal.at.returns-then-opening-least c).Start).whole)) c.fill.new.part found.new.row c.fill.ensures found.ensures.cleared }
+    let found = c.least_lower-found in record {
+      answered = none_found a.income a.severity.now a.opening a.chances.now a.target found.result.opening
+          (found_opening a.income a.severity.now a.opening a.chances.now a.target found.result found.ensures.found) c.if-opening-least.true c.refused.result c.refused.ensures;
+      cleared = zero_still (length a.workspace.now) (c.args.opening + c.args.income * length c.args.chances.now + 1) (omega (arith, (halves (goal.at.returns-then-opening-least c).Start).whole)) c.fill.new.part found.new.row c.fill.ensures found.ensures.cleared;
+    }
 
 -- the workspace between the two halves' work is as long as it was
 still : (c : After-least_lower-found) → length (c.least_lower-found.new.row ++ drop (c.args.opening + c.args.income * length c.args.chances.now + 1) c.fill.new.part) ≡ length c.args.workspace.now
@@ -77,7 +80,10 @@ pub returns : goal.returns
 returns c =
     let a = c.args in
     let found = c.least_lower-found in
-    let upper = c.upper_at-upper in record { answered = one_found a.income a.severity.now a.opening a.chances.now a.target found.result.opening
+    let upper = c.upper_at-upper in record {
+      answered = one_found a.income a.severity.now a.opening a.chances.now a.target found.result.opening
           (found_opening a.income a.severity.now a.opening a.chances.now a.target found.result found.ensures.found) c.if-opening-least.false found.result.lower upper.result
-          (found_lower a.income a.severity.now a.opening a.chances.now a.target found.result found.ensures.found c.if-opening-least.false) upper.ensures.upper; cleared = zero_again (length a.workspace.now) (c.args.opening + c.args.income * length c.args.chances.now + 1) (omega (arith, (halves (goal.at.returns c).Start).whole)) c.fill.new.part found.new.row c.fill.ensures found.ensures.cleared
-          (halves (goal.at.returns c).Start).whole found.auto.row upper.new.row upper.ensures.cleared }
+          (found_lower a.income a.severity.now a.opening a.chances.now a.target found.result found.ensures.found c.if-opening-least.false) upper.ensures.upper;
+      cleared = zero_again (length a.workspace.now) (c.args.opening + c.args.income * length c.args.chances.now + 1) (omega (arith, (halves (goal.at.returns c).Start).whole)) c.fill.new.part found.new.row c.fill.ensures found.ensures.cleared
+          (halves (goal.at.returns c).Start).whole found.auto.row upper.new.row upper.ensures.cleared;
+    }

@@ -73,7 +73,10 @@ returns c =
     let last = c.last_halves in
     let a = c.args in
     let top = largest_level a.income a.opening (length a.chances.now) in
-    let inside : top < c.shape_of-shape.result.width = omega (arith, (halves (goal.at.returns c).Start).levels-inside, (one (goal.at.returns c).After-shape_of-shape).wide) in record { put = c.put_pairs.ensures
+    let inside : top < c.shape_of-shape.result.width = omega (arith, (halves (goal.at.returns c).Start).levels-inside, (one (goal.at.returns c).After-shape_of-shape).wide) in record {
+      put = c.put_pairs.ensures
           ∙ pairs_agree (a.opening + 1) _ _ _ _
           (rw (one (goal.at.returns c).After-shape_of-shape).size at (half_is (goal.at.returns c).After-halves_back Down _ _ (last.ensures.lower top inside) c.halves_back.ensures.lower))
-          (rw (one (goal.at.returns c).After-shape_of-shape).size at (half_is (goal.at.returns c).After-halves_back Up _ _ (last.ensures.upper top inside) c.halves_back.ensures.upper)); cleared = c.fill.ensures ∙ ap (λ n. replicate n 0) (c.halves_back.auto.halves ∙ last.auto.halves) }
+          (rw (one (goal.at.returns c).After-shape_of-shape).size at (half_is (goal.at.returns c).After-halves_back Up _ _ (last.ensures.upper top inside) c.halves_back.ensures.upper));
+      cleared = c.fill.ensures ∙ ap (λ n. replicate n 0) (c.halves_back.auto.halves ∙ last.auto.halves);
+    }

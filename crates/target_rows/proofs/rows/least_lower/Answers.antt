@@ -23,9 +23,12 @@ overflow_add-result c = omega (arith, inside (goal.at.overflow_add-result c).Sta
 pub returns-then-month-gt0 : goal.returns-then-month-gt0
 returns-then-month-gt0 c =
     let a = c.args in
-    let walk-back = c.lower_back-month in record { found = found_none a.income a.severity.now a.opening a.chances.now a.target _ refl
+    let walk-back = c.lower_back-month in record {
+      found = found_none a.income a.severity.now a.opening a.chances.now a.target _ refl
           (none_reached a.income a.severity.now a.opening a.chances.now a.target walk-back.result (walk (goal.at.returns-then-month-gt0 c).Start).terms c.requires.target_nonzero.0 c.if-month-gt0.true
-          walk-back.ensures.given); cleared = c.fill.ensures ∙ ap (λ n. replicate n 0) walk-back.auto.row }
+          walk-back.ensures.given);
+      cleared = c.fill.ensures ∙ ap (λ n. replicate n 0) walk-back.auto.row;
+    }
 
 -- where the walk was not given up
 ended : (c : Else-month-gt0) → c.lower_back-month.result ≡ 0
@@ -34,18 +37,24 @@ ended c = omega (arith, c.if-month-gt0.false)
 pub found_in-found-requires : goal.found_in-found-requires
 found_in-found-requires c =
     let a = c.args in
-    let walk-back = c.lower_back-month in record { opening_in_bounds = omega (arith, inside (goal.at.found_in-found-requires c).Start, walk-back.auto.row); reaches = some_opening a.income a.severity.now a.opening a.chances.now a.target (length a.row.now) walk-back.result walk-back.new.row (ended (goal.at.found_in-found-requires c).Else-month-gt0) (walk (goal.at.found_in-found-requires c).Start).inside
-          walk-back.ensures.given walk-back.ensures.back }
+    let walk-back = c.lower_back-month in record {
+      opening_in_bounds = omega (arith, inside (goal.at.found_in-found-requires c).Start, walk-back.auto.row);
+      reaches = some_opening a.income a.severity.now a.opening a.chances.now a.target (length a.row.now) walk-back.result walk-back.new.row (ended (goal.at.found_in-found-requires c).Else-month-gt0) (walk (goal.at.found_in-found-requires c).Start).inside
+          walk-back.ensures.given walk-back.ensures.back;
+    }
 
 pub returns : goal.returns
 returns c =
     let a = c.args in
     let walk-back = c.lower_back-month in
-    let least = c.found_in-found in record { found = found_some a.income a.severity.now a.opening a.chances.now a.target least.result
+    let least = c.found_in-found in record {
+      found = found_some a.income a.severity.now a.opening a.chances.now a.target least.result
           (least.ensures.found
           ∙ least_is_same a.income a.severity.now a.opening a.chances.now a.target (length a.row.now) walk-back.result walk-back.new.row (ended (goal.at.returns c).Else-month-gt0) (walk (goal.at.returns c).Start).inside
           walk-back.ensures.given walk-back.ensures.back)
           (least.ensures.lower
           ∙ openings_are a.income a.severity.now a.opening a.chances.now a.target (length a.row.now) walk-back.result walk-back.new.row (ended (goal.at.returns c).Else-month-gt0) (walk (goal.at.returns c).Start).inside
           walk-back.ensures.given walk-back.ensures.back least.result.opening least.ensures.inside)
-          least.ensures.inside; cleared = c.fill-2.ensures ∙ ap (λ n. replicate n 0) walk-back.auto.row }
+          least.ensures.inside;
+      cleared = c.fill-2.ensures ∙ ap (λ n. replicate n 0) walk-back.auto.row;
+    }

@@ -85,11 +85,15 @@ pub month_back-requires : goal.month_back-requires
 month_back-requires c =
     let loop = c.months in
     let width = length c.fill.new.part in
-    let shape = c.shape_of-shape.result in record { rows_in = rows_in shape width c.args.income loop.row (shape_is (goal.at.month_back-requires c).At-months) (walk (goal.at.month_back-requires c).Start).earns loop.invariant.size loop.invariant.parts; top_in = top_in shape width c.args.income (c.args.opening + c.args.income * loop.month) (shape_is (goal.at.month_back-requires c).At-months) (omega (arith, (levels (goal.at.month_back-requires c).In-months).income_below)) (omega (arith, (levels (goal.at.month_back-requires c).In-months).this)); month_terms = record {
-          weights_fit = (walk (goal.at.month_back-requires c).Start).terms.weights_fit;
-          listing = (walk (goal.at.month_back-requires c).Start).listing;
-          chance_fits = (walk (goal.at.month_back-requires c).Start).terms.chances_fit.each (loop.month - 1);
-        } }
+    let shape = c.shape_of-shape.result in record {
+      rows_in = rows_in shape width c.args.income loop.row (shape_is (goal.at.month_back-requires c).At-months) (walk (goal.at.month_back-requires c).Start).earns loop.invariant.size loop.invariant.parts;
+      top_in = top_in shape width c.args.income (c.args.opening + c.args.income * loop.month) (shape_is (goal.at.month_back-requires c).At-months) (omega (arith, (levels (goal.at.month_back-requires c).In-months).income_below)) (omega (arith, (levels (goal.at.month_back-requires c).In-months).this));
+      month_terms = record {
+        weights_fit = (walk (goal.at.month_back-requires c).Start).terms.weights_fit;
+        listing = (walk (goal.at.month_back-requires c).Start).listing;
+        chance_fits = (walk (goal.at.month_back-requires c).Start).terms.chances_fit.each (loop.month - 1);
+      };
+    }
 
 -- the row that the month left is that of the months from it on
 taken : (c : After-month_back) → let a = c.args in let t = c.months.month in let width = length c.fill.new.part in TakenBack Down a.severity.now (shape_of Survive width a.income) (largest_level a.income a.opening (t - 1)) (drop (t - 1) a.chances.now) (replicate width S) c.month_back.new.rows
@@ -108,34 +112,41 @@ loop-place-init c = (omega arith, λ i l. absurd (omega arith))
 place_inside : (c : At-loop-place) → c.loop-place.place < length c.month_back.new.rows
 unfolding largest_level
 place_inside c =
-    omega (arith, c.loop-place.invariant.0, (let levels : let a = c.args in let loop = c.months in Levels a.income (a.opening + a.income * loop.month) loop.month (length a.chances.now) (length c.fill.new.part) (length loop.row) = let a = c.args in
-    let loop = c.months in
-    record {
-      this =
-          omega (arith, month_inside a.income a.severity.now a.opening a.chances.now a.target (length c.fill.new.part) (let wide : let a = c.args in largest_level a.income a.opening (length a.chances.now) < length c.fill.new.part = omega (arith, (let same_width : length c.fill.new.part ≡ length c.args.row.now = c.fill.auto.part in same_width), (let walk : Walk (length c.args.row.now) c.args.income c.args.opening c.args.chances.now c.args.severity.now c.args.sizes.now c.args.dense = c.requires.walk in walk).inside) in wide) loop.month loop.invariant.inside);
-      some = (let walk : Walk (length c.args.row.now) c.args.income c.args.opening c.args.chances.now c.args.severity.now c.args.sizes.now c.args.dense = c.requires.walk in walk).earns;
-      income_below = omega (arith, month_before a.income a.opening loop.month (let some_month : 0 < c.months.month = omega (arith, c.months-test.true) in some_month));
-      walked = loop.invariant.inside;
-      row = loop.invariant.size;
-    } in levels).this, (let levels : let a = c.args in let loop = c.months in Levels a.income (a.opening + a.income * loop.month) loop.month (length a.chances.now) (length c.fill.new.part) (length loop.row) = let a = c.args in
-    let loop = c.months in
-    record {
-      this =
-          omega (arith, month_inside a.income a.severity.now a.opening a.chances.now a.target (length c.fill.new.part) (let wide : let a = c.args in largest_level a.income a.opening (length a.chances.now) < length c.fill.new.part = omega (arith, (let same_width : length c.fill.new.part ≡ length c.args.row.now = c.fill.auto.part in same_width), (let walk : Walk (length c.args.row.now) c.args.income c.args.opening c.args.chances.now c.args.severity.now c.args.sizes.now c.args.dense = c.requires.walk in walk).inside) in wide) loop.month loop.invariant.inside);
-      some = (let walk : Walk (length c.args.row.now) c.args.income c.args.opening c.args.chances.now c.args.severity.now c.args.sizes.now c.args.dense = c.requires.walk in walk).earns;
-      income_below = omega (arith, month_before a.income a.opening loop.month (let some_month : 0 < c.months.month = omega (arith, c.months-test.true) in some_month));
-      walked = loop.invariant.inside;
-      row = loop.invariant.size;
-    } in levels).row, (let levels : let a = c.args in let loop = c.months in Levels a.income (a.opening + a.income * loop.month) loop.month (length a.chances.now) (length c.fill.new.part) (length loop.row) = let a = c.args in
-    let loop = c.months in
-    record {
-      this =
-          omega (arith, month_inside a.income a.severity.now a.opening a.chances.now a.target (length c.fill.new.part) (let wide : let a = c.args in largest_level a.income a.opening (length a.chances.now) < length c.fill.new.part = omega (arith, (let same_width : length c.fill.new.part ≡ length c.args.row.now = c.fill.auto.part in same_width), (let walk : Walk (length c.args.row.now) c.args.income c.args.opening c.args.chances.now c.args.severity.now c.args.sizes.now c.args.dense = c.requires.walk in walk).inside) in wide) loop.month loop.invariant.inside);
-      some = (let walk : Walk (length c.args.row.now) c.args.income c.args.opening c.args.chances.now c.args.severity.now c.args.sizes.now c.args.dense = c.requires.walk in walk).earns;
-      income_below = omega (arith, month_before a.income a.opening loop.month (let some_month : 0 < c.months.month = omega (arith, c.months-test.true) in some_month));
-      walked = loop.invariant.inside;
-      row = loop.invariant.size;
-    } in levels).some, c.month_back.auto.rows)
+    omega (
+      arith,
+      c.loop-place.invariant.0,
+      (let levels : let a = c.args in let loop = c.months in Levels a.income (a.opening + a.income * loop.month) loop.month (length a.chances.now) (length c.fill.new.part) (length loop.row) = let a = c.args in
+          let loop = c.months in
+          record {
+            this =
+                omega (arith, month_inside a.income a.severity.now a.opening a.chances.now a.target (length c.fill.new.part) (let wide : let a = c.args in largest_level a.income a.opening (length a.chances.now) < length c.fill.new.part = omega (arith, (let same_width : length c.fill.new.part ≡ length c.args.row.now = c.fill.auto.part in same_width), (let walk : Walk (length c.args.row.now) c.args.income c.args.opening c.args.chances.now c.args.severity.now c.args.sizes.now c.args.dense = c.requires.walk in walk).inside) in wide) loop.month loop.invariant.inside);
+            some = (let walk : Walk (length c.args.row.now) c.args.income c.args.opening c.args.chances.now c.args.severity.now c.args.sizes.now c.args.dense = c.requires.walk in walk).earns;
+            income_below = omega (arith, month_before a.income a.opening loop.month (let some_month : 0 < c.months.month = omega (arith, c.months-test.true) in some_month));
+            walked = loop.invariant.inside;
+            row = loop.invariant.size;
+          } in levels).this,
+      (let levels : let a = c.args in let loop = c.months in Levels a.income (a.opening + a.income * loop.month) loop.month (length a.chances.now) (length c.fill.new.part) (length loop.row) = let a = c.args in
+          let loop = c.months in
+          record {
+            this =
+                omega (arith, month_inside a.income a.severity.now a.opening a.chances.now a.target (length c.fill.new.part) (let wide : let a = c.args in largest_level a.income a.opening (length a.chances.now) < length c.fill.new.part = omega (arith, (let same_width : length c.fill.new.part ≡ length c.args.row.now = c.fill.auto.part in same_width), (let walk : Walk (length c.args.row.now) c.args.income c.args.opening c.args.chances.now c.args.severity.now c.args.sizes.now c.args.dense = c.requires.walk in walk).inside) in wide) loop.month loop.invariant.inside);
+            some = (let walk : Walk (length c.args.row.now) c.args.income c.args.opening c.args.chances.now c.args.severity.now c.args.sizes.now c.args.dense = c.requires.walk in walk).earns;
+            income_below = omega (arith, month_before a.income a.opening loop.month (let some_month : 0 < c.months.month = omega (arith, c.months-test.true) in some_month));
+            walked = loop.invariant.inside;
+            row = loop.invariant.size;
+          } in levels).row,
+      (let levels : let a = c.args in let loop = c.months in Levels a.income (a.opening + a.income * loop.month) loop.month (length a.chances.now) (length c.fill.new.part) (length loop.row) = let a = c.args in
+          let loop = c.months in
+          record {
+            this =
+                omega (arith, month_inside a.income a.severity.now a.opening a.chances.now a.target (length c.fill.new.part) (let wide : let a = c.args in largest_level a.income a.opening (length a.chances.now) < length c.fill.new.part = omega (arith, (let same_width : length c.fill.new.part ≡ length c.args.row.now = c.fill.auto.part in same_width), (let walk : Walk (length c.args.row.now) c.args.income c.args.opening c.args.chances.now c.args.severity.now c.args.sizes.now c.args.dense = c.requires.walk in walk).inside) in wide) loop.month loop.invariant.inside);
+            some = (let walk : Walk (length c.args.row.now) c.args.income c.args.opening c.args.chances.now c.args.severity.now c.args.sizes.now c.args.dense = c.requires.walk in walk).earns;
+            income_below = omega (arith, month_before a.income a.opening loop.month (let some_month : 0 < c.months.month = omega (arith, c.months-test.true) in some_month));
+            walked = loop.invariant.inside;
+            row = loop.invariant.size;
+          } in levels).some,
+      c.month_back.auto.rows,
+    )
 
 pub offset_bounds-row-place : goal.offset_bounds-row-place
 offset_bounds-row-place c = omega (arith, place_inside (goal.at.offset_bounds-row-place c).At-loop-place)
@@ -151,11 +162,10 @@ loop-place-smaller c =
     omega (arith, c.loop-place.invariant.0, c.if-place-last.false)
 
 pub loop-place-preserved : goal.loop-place-preserved
-loop-place-preserved c =
-    (
-      omega (arith, c.loop-place.invariant.0, c.if-place-last.false),
-      below_more (λ i. get_or c.month_back.new.rows i 0 < c.args.target) c.loop-place.place c.loop-place.invariant.1 c.loop-place-test.true,
-    )
+loop-place-preserved c = (
+  omega (arith, c.loop-place.invariant.0, c.if-place-last.false),
+  below_more (λ i. get_or c.month_back.new.rows i 0 < c.args.target) c.loop-place.place c.loop-place.invariant.1 c.loop-place-test.true,
+)
 
 pub overflow_sub-month-in-months : goal.overflow_sub-month-in-months
 overflow_sub-month-in-months c = some-month (goal.at.overflow_sub-month-in-months c).In-months
@@ -177,14 +187,20 @@ returns-after-months c =
     let a = c.args in
     let width = length c.fill.new.part in
     let done : c.months.month ≡ 0 = omega (arith, c.months-test.false) in
-    let loop = c.months in record { given = walked_all a.income a.severity.now a.opening a.chances.now a.target width loop.month loop.row done loop.invariant; back = as_lent a.income a.severity.now a.opening a.chances.now (loop.month - 1) width (length a.row.now) loop.row (same_width (goal.at.returns-after-months c).After-fill)
-          (walked_end a.income a.severity.now a.opening a.chances.now a.target width loop.month loop.row done loop.invariant) }
+    let loop = c.months in record {
+      given = walked_all a.income a.severity.now a.opening a.chances.now a.target width loop.month loop.row done loop.invariant;
+      back = as_lent a.income a.severity.now a.opening a.chances.now (loop.month - 1) width (length a.row.now) loop.row (same_width (goal.at.returns-after-months c).After-fill)
+          (walked_end a.income a.severity.now a.opening a.chances.now a.target width loop.month loop.row done loop.invariant);
+    }
 
 pub returns-then-place-last : goal.returns-then-place-last
 unfolding largest_level
 returns-then-place-last c =
     let a = c.args in
     let loop = c.months in
-    let width = length c.fill.new.part in record { given = giving_up a.income a.severity.now a.opening a.chances.now a.target width (wide (goal.at.returns-then-place-last c).After-fill) loop.month
+    let width = length c.fill.new.part in record {
+      given = giving_up a.income a.severity.now a.opening a.chances.now a.target width (wide (goal.at.returns-then-place-last c).After-fill) loop.month
           (some-month (goal.at.returns-then-place-last c).In-months) loop.row loop.invariant c.month_back.new.rows (taken (goal.at.returns-then-place-last c).After-month_back)
-          (λ i l. below_more (λ i. get_or c.month_back.new.rows i 0 < a.target) c.loop-place.place c.loop-place.invariant.1 c.loop-place-test.true i (omega (arith, c.if-place-last.true, month_before a.income a.opening loop.month (some-month (goal.at.returns-then-place-last c).In-months)))); back = as_lent a.income a.severity.now a.opening a.chances.now (loop.month - 1) width (length a.row.now) c.month_back.new.rows (same_width (goal.at.returns-then-place-last c).After-fill) (taken (goal.at.returns-then-place-last c).After-month_back) }
+          (λ i l. below_more (λ i. get_or c.month_back.new.rows i 0 < a.target) c.loop-place.place c.loop-place.invariant.1 c.loop-place-test.true i (omega (arith, c.if-place-last.true, month_before a.income a.opening loop.month (some-month (goal.at.returns-then-place-last c).In-months))));
+      back = as_lent a.income a.severity.now a.opening a.chances.now (loop.month - 1) width (length a.row.now) c.month_back.new.rows (same_width (goal.at.returns-then-place-last c).After-fill) (taken (goal.at.returns-then-place-last c).After-month_back);
+    }

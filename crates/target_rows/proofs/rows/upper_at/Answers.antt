@@ -37,6 +37,9 @@ value_at-upper-requires c =
 pub returns : goal.returns
 returns c =
     let a = c.args in
-    let width = length a.row.now in record { upper = c.value_at-upper.ensures
+    let width = length a.row.now in record {
+      upper = c.value_at-upper.ensures
           ∙ back_of Up a.income a.severity.now a.chances.now width a.opening c.shape_of-shape.result c.fill.new.part c.all_months_back.new.rows
-          c.shape_of-shape.ensures (last_row (goal.at.returns c).After-fill) (walk (goal.at.returns c).Start).inside c.all_months_back.ensures.values a.opening (le_refl a.opening); cleared = c.fill-2.ensures ∙ ap (λ n. replicate n 0) (c.all_months_back.auto.rows ∙ c.fill.auto.part) }
+          c.shape_of-shape.ensures (last_row (goal.at.returns c).After-fill) (walk (goal.at.returns c).Start).inside c.all_months_back.ensures.values a.opening (le_refl a.opening);
+      cleared = c.fill-2.ensures ∙ ap (λ n. replicate n 0) (c.all_months_back.auto.rows ∙ c.fill.auto.part);
+    }
