@@ -1,4 +1,5 @@
 -- `record::question` meets its contract, case by case.
+use native.Mathlib.Omega.{arith}
 use borrow.Author.Tests.{ne_eqb}
 use Rattle.test_mixtures.specs.Records.{question_of}
 use Rattle.test_mixtures.proofs.record.question.Goals as goal
@@ -18,5 +19,8 @@ returns-in-3 c = rw c.in-3.is
 pub returns-in_default : goal.returns-in_default
 unfolding question_of
 returns-in_default c =
-    let other = c.in-1.rest in
-    rw (ne_eqb _ 1 other.0.0.1, ne_eqb _ 2 other.0.1, ne_eqb _ 3 other.1)
+    rw (
+      ne_eqb c.args.kind 1 (λ same. omega arith),
+      ne_eqb c.args.kind 2 (λ same. omega arith),
+      ne_eqb c.args.kind 3 (λ same. omega arith),
+    )
