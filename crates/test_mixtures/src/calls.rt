@@ -2,16 +2,16 @@
 ghost use Rattle.std.specs.Prelude.{◌*◌, ◌≤◌, length};
 
 use crate::record::Record;
-use crate::{STDIN_FILENO, figures, record, rooms, text};
+use crate::{STDIN_FILENO, figures, record, space, text};
 
 // Whether there was room for the row, and all of it in the input.
 pub fn read_row(record: Record) -> bool {
     let length = record.length;
-    if rooms::ROW < length {
+    if space::ROW < length {
         return false;
     }
-    let mut bytes = rooms::bytes();
-    let mut row = rooms::row();
+    let mut bytes = space::bytes();
+    let mut row = space::row();
     call_over(record, &mut bytes[..4 * length], &mut row[..length])
 }
 
@@ -30,8 +30,8 @@ fn call_over(record: Record, bytes: &mut [u8], row: &mut [u32]) -> bool
 fn lend(record: Record, row: &[u32]) {
     let room = record.room;
     let fill = record.fill;
-    let mut workspace = rooms::workspace(fill);
-    if room <= rooms::WORKSPACE {
+    let mut workspace = space::workspace(fill);
+    if room <= space::WORKSPACE {
         call(record, row, &mut workspace[..room]);
     }
 }

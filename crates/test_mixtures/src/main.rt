@@ -6,7 +6,7 @@ mod calls;
 mod figures;
 mod record;
 mod reports;
-mod rooms;
+mod space;
 mod text;
 
 use record::Record;

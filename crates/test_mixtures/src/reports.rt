@@ -1,12 +1,12 @@
 // The report of a mix's bytes.
-use crate::{STDIN_FILENO, STDOUT_FILENO, rooms};
+use crate::{STDIN_FILENO, STDOUT_FILENO, space};
 
 // Whether there was room for the bytes, and all of them in the input.
 pub fn read_bytes(length: usize) -> bool {
-    if rooms::BYTES < length {
+    if space::BYTES < length {
         return false;
     }
-    let mut bytes = rooms::bytes();
+    let mut bytes = space::bytes();
     report(&mut bytes[..length])
 }
 

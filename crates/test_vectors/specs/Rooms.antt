@@ -1,4 +1,4 @@
--- The room that the program lends, for the contracts; src/rooms.rt has it for the code, and the proofs hold the two equal.
+-- The room that the program lends, for the contracts; src/space.rt has it for the code, and the proofs hold the two equal.
 use Rattle.std.specs.Prelude.{ℕ, ◌+◌, ◌||◌, cond, ltb, eqb}
 use Rattle.model.specs.Limits.{row_room, workspace_room, bounds_room}
 use Rattle.test_vectors.specs.declared.record.Record.{Record}

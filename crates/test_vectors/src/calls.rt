@@ -3,7 +3,7 @@ ghost use Rattle.std.specs.Prelude.{◌≡◌, length, replicate};
 ghost use Rattle.test_vectors.specs.Rooms.{workspace_capacity};
 
 use crate::record::Record;
-use crate::{format, openings, rooms, sums, text};
+use crate::{format, openings, space, sums, text};
 use engine::Answer;
 use model::{Ask, Head, Question};
 
@@ -29,17 +29,17 @@ fn lend(record: Record, row: &[u32]) {
     let room = record.room;
     let fill = record.fill;
     let mut workspace = workspace(fill);
-    if room <= rooms::WORKSPACE {
+    if room <= space::WORKSPACE {
         call_in(record, row, &mut workspace[..room]);
     }
 }
 
 // The second `ensures` gives the length, which lending a part of the array needs.
-fn workspace(fill: u32) -> [u32; rooms::WORKSPACE]
+fn workspace(fill: u32) -> [u32; space::WORKSPACE]
     ensures filled { result ≡ replicate workspace_capacity fill }
     ensures sized { workspace_capacity ≡ length result }
 {
-    [fill; rooms::WORKSPACE]
+    [fill; space::WORKSPACE]
 }
 
 fn call_in(record: Record, row: &[u32], workspace: &mut [u32]) {

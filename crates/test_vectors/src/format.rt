@@ -1,6 +1,6 @@
 // Reading and writing plan bytes, each with its line.
 use crate::record::Record;
-use crate::{record, rooms, text};
+use crate::{record, space, text};
 use model::Head;
 
 pub fn write(record: Record, row: &[u32]) {
@@ -8,7 +8,7 @@ pub fn write(record: Record, row: &[u32]) {
     let room = record.room;
     let fill = record.fill_byte;
     let mut bytes = record::bytes(fill);
-    if room <= rooms::BYTES {
+    if room <= space::BYTES {
         write_into(head, row, &mut bytes[..room]);
     }
 }
@@ -24,7 +24,7 @@ fn write_into(head: Head, row: &[u32], bytes: &mut [u8]) {
 pub fn read(record: Record) {
     let length = record.length;
     let mut bytes = record::bytes(0);
-    if length <= rooms::BYTES {
+    if length <= space::BYTES {
         read_from(record, &mut bytes[..length]);
     }
 }
@@ -35,7 +35,7 @@ fn read_from(record: Record, bytes: &mut [u8]) {
     let room = record.room;
     let fill = record.fill;
     let mut row = record::row(fill);
-    if room <= rooms::ROW {
+    if room <= space::ROW {
         read_into(bytes, &mut row[..room]);
     }
 }

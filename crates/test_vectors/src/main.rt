@@ -6,7 +6,7 @@ mod calls;
 mod format;
 mod openings;
 mod record;
-mod rooms;
+mod space;
 mod sums;
 mod text;
 

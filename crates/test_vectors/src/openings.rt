@@ -2,24 +2,24 @@
 ghost use Rattle.std.specs.Prelude.{◌≡◌, length, replicate};
 ghost use Rattle.test_vectors.specs.Rooms.{bounds_capacity};
 
-use crate::{rooms, text};
+use crate::{space, text};
 use model::Head;
 use survival::all_openings;
 
 // Of the row of bounds as many numbers are lent as the record says.
 pub fn lend(head: Head, places: usize, fill: u32, row: &[u32], workspace: &mut [u32]) {
     let mut bounds = bounds(fill);
-    if places <= rooms::BOUNDS {
+    if places <= space::BOUNDS {
         call(head, row, workspace, &mut bounds[..places]);
     }
 }
 
 // The second `ensures` gives the length, which lending a part of the array needs.
-fn bounds(fill: u32) -> [u32; rooms::BOUNDS]
+fn bounds(fill: u32) -> [u32; space::BOUNDS]
     ensures filled { result ≡ replicate bounds_capacity fill }
     ensures sized { bounds_capacity ≡ length result }
 {
-    [fill; rooms::BOUNDS]
+    [fill; space::BOUNDS]
 }
 
 fn call(head: Head, row: &[u32], workspace: &mut [u32], bounds: &mut [u32]) {

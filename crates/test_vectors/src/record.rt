@@ -3,7 +3,7 @@ ghost use Rattle.std.specs.Prelude.{◌≡◌, ◌+◌, ◌*◌, ◌≤◌, leng
 ghost use Rattle.test_vectors.specs.Rooms.{row_capacity, byte_capacity, row_used};
 ghost use Rattle.test_vectors.specs.Records.{word_at, number_at, record_of, ended, row_in};
 
-use crate::rooms;
+use crate::space;
 use model::Head;
 use numbers::big_endian;
 
@@ -73,18 +73,18 @@ fn number(bytes: &[u8], at: usize) -> u32
 }
 
 // Room for a row and for a plan's bytes. The second `ensures` gives the length, which lending a part of the array needs.
-pub fn row(fill: u32) -> [u32; rooms::ROW]
+pub fn row(fill: u32) -> [u32; space::ROW]
     ensures filled { result ≡ replicate row_capacity fill }
     ensures sized { row_capacity ≡ length result }
 {
-    [fill; rooms::ROW]
+    [fill; space::ROW]
 }
 
-pub fn bytes(fill: u8) -> [u8; rooms::BYTES]
+pub fn bytes(fill: u8) -> [u8; space::BYTES]
     ensures filled { result ≡ replicate byte_capacity fill }
     ensures sized { byte_capacity ≡ length result }
 {
-    [fill; rooms::BYTES]
+    [fill; space::BYTES]
 }
 
 // Reads a row of `count` numbers, and answers its length, or 0 where there is no room for it.
@@ -92,7 +92,7 @@ pub fn read_row(count: usize, row: &mut [u32]) -> usize
     ensures used { result ≡ row_used count (length row.old) }
     ensures within { result ≤ length row.new }
 {
-    if count > rooms::ROW {
+    if count > space::ROW {
         return 0;
     }
     if count > row.len() {
