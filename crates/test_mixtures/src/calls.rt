@@ -2,7 +2,7 @@
 ghost use Rattle.std.specs.Prelude.{◌*◌, ◌≤◌, length};
 
 use crate::record::Record;
-use crate::{STDIN_FILENO, figures, record, space, text};
+use crate::{STDIN_FILENO, figures, output, record, space};
 
 // Whether there was room for the row, and all of it in the input.
 pub fn read_row(record: Record) -> bool {
@@ -43,6 +43,6 @@ fn call(record: Record, row: &[u32], workspace: &mut [u32]) {
     if record.kind == record::MODEL {
         figures::line(answer);
     } else {
-        text::line(answer, workspace);
+        output::line(answer, workspace);
     }
 }

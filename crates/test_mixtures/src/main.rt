@@ -4,10 +4,10 @@
 
 mod calls;
 mod figures;
+mod output;
 mod record;
 mod reports;
 mod space;
-mod text;
 
 use record::Record;
 
