@@ -109,53 +109,20 @@ pub loop-place-init : goal.loop-place-init
 loop-place-init c = (omega arith, λ i l. absurd (omega arith))
 
 -- the places of the inner loop lie within the row
-place_inside : (c : At-loop-place) → c.loop-place.place < length c.month_back.new.rows
-unfolding largest_level
-place_inside c =
-    omega (
-      arith,
-      c.loop-place.invariant.0,
-      (let levels : let a = c.args in let loop = c.months in Levels a.income (a.opening + a.income * loop.month) loop.month (length a.chances.now) (length c.fill.new.part) (length loop.row) = let a = c.args in
-          let loop = c.months in
-          record {
-            this =
-                omega (arith, month_inside a.income a.severity.now a.opening a.chances.now a.target (length c.fill.new.part) (let wide : let a = c.args in largest_level a.income a.opening (length a.chances.now) < length c.fill.new.part = omega (arith, (let same_width : length c.fill.new.part ≡ length c.args.row.now = c.fill.auto.part in same_width), (let walk : Walk (length c.args.row.now) c.args.income c.args.opening c.args.chances.now c.args.severity.now c.args.sizes.now c.args.dense = c.requires.walk in walk).inside) in wide) loop.month loop.invariant.inside);
-            some = (let walk : Walk (length c.args.row.now) c.args.income c.args.opening c.args.chances.now c.args.severity.now c.args.sizes.now c.args.dense = c.requires.walk in walk).earns;
-            income_below = omega (arith, month_before a.income a.opening loop.month (let some_month : 0 < c.months.month = omega (arith, c.months-test.true) in some_month));
-            walked = loop.invariant.inside;
-            row = loop.invariant.size;
-          } in levels).this,
-      (let levels : let a = c.args in let loop = c.months in Levels a.income (a.opening + a.income * loop.month) loop.month (length a.chances.now) (length c.fill.new.part) (length loop.row) = let a = c.args in
-          let loop = c.months in
-          record {
-            this =
-                omega (arith, month_inside a.income a.severity.now a.opening a.chances.now a.target (length c.fill.new.part) (let wide : let a = c.args in largest_level a.income a.opening (length a.chances.now) < length c.fill.new.part = omega (arith, (let same_width : length c.fill.new.part ≡ length c.args.row.now = c.fill.auto.part in same_width), (let walk : Walk (length c.args.row.now) c.args.income c.args.opening c.args.chances.now c.args.severity.now c.args.sizes.now c.args.dense = c.requires.walk in walk).inside) in wide) loop.month loop.invariant.inside);
-            some = (let walk : Walk (length c.args.row.now) c.args.income c.args.opening c.args.chances.now c.args.severity.now c.args.sizes.now c.args.dense = c.requires.walk in walk).earns;
-            income_below = omega (arith, month_before a.income a.opening loop.month (let some_month : 0 < c.months.month = omega (arith, c.months-test.true) in some_month));
-            walked = loop.invariant.inside;
-            row = loop.invariant.size;
-          } in levels).row,
-      (let levels : let a = c.args in let loop = c.months in Levels a.income (a.opening + a.income * loop.month) loop.month (length a.chances.now) (length c.fill.new.part) (length loop.row) = let a = c.args in
-          let loop = c.months in
-          record {
-            this =
-                omega (arith, month_inside a.income a.severity.now a.opening a.chances.now a.target (length c.fill.new.part) (let wide : let a = c.args in largest_level a.income a.opening (length a.chances.now) < length c.fill.new.part = omega (arith, (let same_width : length c.fill.new.part ≡ length c.args.row.now = c.fill.auto.part in same_width), (let walk : Walk (length c.args.row.now) c.args.income c.args.opening c.args.chances.now c.args.severity.now c.args.sizes.now c.args.dense = c.requires.walk in walk).inside) in wide) loop.month loop.invariant.inside);
-            some = (let walk : Walk (length c.args.row.now) c.args.income c.args.opening c.args.chances.now c.args.severity.now c.args.sizes.now c.args.dense = c.requires.walk in walk).earns;
-            income_below = omega (arith, month_before a.income a.opening loop.month (let some_month : 0 < c.months.month = omega (arith, c.months-test.true) in some_month));
-            walked = loop.invariant.inside;
-            row = loop.invariant.size;
-          } in levels).some,
-      c.month_back.auto.rows,
-    )
+place_inside :
+    (c : At-loop-place) → let a = c.args in let loop = c.months in
+    Levels a.income (a.opening + a.income * loop.month) loop.month (length a.chances.now) (length c.fill.new.part) (length loop.row) →
+    c.loop-place.place < length c.month_back.new.rows
+place_inside c level = omega (arith, c.loop-place.invariant.0, level.this, level.row, level.some, c.month_back.auto.rows)
 
 pub offset_bounds-row-place : goal.offset_bounds-row-place
-offset_bounds-row-place c = omega (arith, place_inside (goal.at.offset_bounds-row-place c).At-loop-place)
+offset_bounds-row-place c = omega (arith, place_inside (goal.at.offset_bounds-row-place c).At-loop-place (levels (goal.at.offset_bounds-row-place c).In-months))
 
 pub bounds-row-place : goal.bounds-row-place
-bounds-row-place c = place_inside (goal.at.bounds-row-place c).At-loop-place
+bounds-row-place c = place_inside (goal.at.bounds-row-place c).At-loop-place (levels (goal.at.bounds-row-place c).In-months)
 
 pub overflow_add-place : goal.overflow_add-place
-overflow_add-place c = omega (arith, place_inside (goal.at.overflow_add-place c).At-loop-place)
+overflow_add-place c = omega (arith, place_inside (goal.at.overflow_add-place c).At-loop-place (levels (goal.at.overflow_add-place c).In-months))
 
 pub loop-place-smaller : goal.loop-place-smaller
 loop-place-smaller c =
