@@ -1,6 +1,8 @@
 -- The laws of the definitions. Theorems has what the other crates and the reader cite.
 pub mod SumLaws
+pub mod ListLaws
 pub mod LevelLaws
+pub mod RefusalNumbers
 pub mod Facts
 pub mod Rooms
 pub mod Quotients

@@ -1,15 +1,43 @@
 -- "Turned away": the refusal table. A check is a number and whether it fits; the first that fits counts, and 0 is none.
-use Rattle.std.specs.Prelude.{ℕ, ◌+◌, ◌*◌, ◌≡◌, Bool, false, not, ◌&&◌, ◌||◌, cond, List, [], ◌∷◌, ◌++◌, ltb, eqb, length}
+use Rattle.std.specs.Prelude.{ℕ, ◌+◌, ◌*◌, ◌≡◌, Bool, false, not, ◌&&◌, ◌||◌, cond, List, [], ◌∷◌, ◌++◌, ltb, eqb, length, Result, Ok, Err}
 use Rattle.model.specs.declared.Head.{Head}
 use Rattle.model.specs.declared.Question.{Question}
 use Rattle.model.specs.declared.Question.TheVariants.{Survive, Both, High, Low}
 use Rattle.model.specs.declared.Ask.{Ask}
+use Rattle.model.specs.declared.refusal.Refusal.{Refusal}
+use Rattle.model.specs.declared.refusal.Refusal.TheVariants.{Stub, Horizon, Opening, Sizes, Length, Padding, Chance, Weights, Tail, Outside, Workspace, Kind, Rule, Target, Unreached, Income, Span, Mixture}
 use Rattle.model.specs.Limits.{max_months, max_opening, max_sizes, max_income, max_span, max_claims, max_level}
 use Rattle.model.specs.Scale.{S}
 use Rattle.model.specs.Sums.{total, any}
 use Rattle.model.specs.Plan.{Plan, plan_of, row_length, horizon, sizes}
 use Rattle.model.specs.Levels.{largest_level, row_levels}
 use Rattle.model.specs.Format.{head_bytes, head_of, row_of, fill_of, byte_length}
+
+-- the number that the lists give a refusal
+abbrev pub refusal_number : Refusal → ℕ
+refusal_number Stub = 1
+refusal_number Horizon = 2
+refusal_number Opening = 3
+refusal_number Sizes = 4
+refusal_number Length = 5
+refusal_number Padding = 6
+refusal_number Chance = 7
+refusal_number Weights = 8
+refusal_number Tail = 9
+refusal_number Outside = 10
+refusal_number Workspace = 11
+refusal_number Kind = 12
+refusal_number Rule = 13
+refusal_number Target = 14
+refusal_number Unreached = 15
+refusal_number Income = 16
+refusal_number Span = 17
+refusal_number Mixture = 18
+
+-- the number of what a call or a check answers, 0 where nothing is refused
+abbrev pub refused_with : {A : Type 0} → Result A Refusal → ℕ
+refused_with (Ok _) = 0
+refused_with (Err r) = refusal_number r
 
 -- "Checks go in the order of the numbers": the first number of the list that fits
 unfoldable pub first : List (ℕ × Bool) → ℕ

@@ -2,6 +2,9 @@
 #![tactic(auto)]
 
 pub mod limits;
+mod refusal;
+
+pub use refusal::Refusal;
 
 // S: chances, weights and bounds count in parts of it.
 pub const SCALE: u32 = 1 << 30;

@@ -65,3 +65,11 @@ module _ (h : Head) (row : List ℕ) where
       unfolding first number_checks tail_survivable plan_of
       by_weights within sum sum_is_lem =
           by_numbers ∙ rw (within, horizon_is h row row_is, sizes_is h row row_is, weights_are row_is, sum_is_lem)
+
+      module _ (within : any (ltb S) row ≡ false) (sum : ℕ) (summed : sum ≡ total (drop h.months row)) where
+        pub by_sum : (sum ≡ S → ⊥) → plan_refusal h row ≡ 8
+        by_sum differs = by_weights within sum summed ∙ rw (ne_eqb sum S differs)
+
+        -- the tail decides
+        pub by_tail : sum ≡ S → plan_refusal h row ≡ cond (survivable h row) 9 0
+        by_tail adds = by_weights within sum summed ∙ rw (eq-eqb sum S adds)

@@ -1,0 +1,31 @@
+-- Laws of a refusal's number: it is not 0, so that 0 says that nothing is refused.
+use Prim.Native.Nat.{ℕ, ◌≤◌, ◌<◌}
+use mathlib.Core.Path.{◌≡◌, sym, ◌∙◌}
+use native.Mathlib.Omega.{arith}
+use Rattle.model.specs.declared.refusal.Refusal.{Refusal}
+use Rattle.model.specs.declared.refusal.Refusal.TheVariants.{Stub, Horizon, Opening, Sizes, Length, Padding, Chance, Weights, Tail, Outside, Workspace, Kind, Rule, Target, Unreached, Income, Span, Mixture}
+use Rattle.model.specs.Refusal.{refusal_number}
+
+pub number_above_0 : (r : Refusal) → 0 < refusal_number r
+number_above_0 Stub = omega arith
+number_above_0 Horizon = omega arith
+number_above_0 Opening = omega arith
+number_above_0 Sizes = omega arith
+number_above_0 Length = omega arith
+number_above_0 Padding = omega arith
+number_above_0 Chance = omega arith
+number_above_0 Weights = omega arith
+number_above_0 Tail = omega arith
+number_above_0 Outside = omega arith
+number_above_0 Workspace = omega arith
+number_above_0 Kind = omega arith
+number_above_0 Rule = omega arith
+number_above_0 Target = omega arith
+number_above_0 Unreached = omega arith
+number_above_0 Income = omega arith
+number_above_0 Span = omega arith
+number_above_0 Mixture = omega arith
+
+-- where a check answers a refusal, its definition is not 0
+pub not_accepted : (r : Refusal) (n : ℕ) → refusal_number r ≡ n → n ≡ 0 → ⊥
+not_accepted r n is zero = omega (arith, number_above_0 r, is, zero)
