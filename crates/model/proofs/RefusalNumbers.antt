@@ -4,7 +4,10 @@ use mathlib.Core.Path.{◌≡◌, sym, ◌∙◌}
 use native.Mathlib.Omega.{arith}
 use Rattle.model.specs.declared.refusal.Refusal.{Refusal}
 use Rattle.model.specs.declared.refusal.Refusal.TheVariants.{Stub, Horizon, Opening, Sizes, Length, Padding, Chance, Weights, Tail, Outside, Workspace, Kind, Rule, Target, Unreached, Income, Span, Mixture}
-use Rattle.model.specs.Refusal.{refusal_number}
+use Rattle.std.specs.Prelude.{Result}
+use Rattle.std.specs.Result.{IsErrAnd}
+use Rattle.std.proofs.lemmas.Result.{err_from_is_err_and}
+use Rattle.model.specs.Refusal.{refusal_number, refused_with}
 
 pub number_above_0 : (r : Refusal) → 0 < refusal_number r
 number_above_0 Stub = omega arith
@@ -29,3 +32,7 @@ number_above_0 Mixture = omega arith
 -- where a check answers a refusal, its definition is not 0
 pub not_accepted : (r : Refusal) (n : ℕ) → refusal_number r ≡ n → n ≡ 0 → ⊥
 not_accepted r n is zero = omega (arith, number_above_0 r, is, zero)
+
+-- a refusal that `?` hands on
+pub passed_on : {A : Type 0} (r : Result A Refusal) (e : Refusal) → IsErrAnd r (λ y. y ≡ e) → refused_with r ≡ refusal_number e
+passed_on r e h = let p = err_from_is_err_and r h in rw (p.1, p.2)

@@ -3,6 +3,7 @@ use mathlib.Core.Path.{◌≡◌, refl, sym, ◌∙◌}
 use mathlib.Core.Bool.{Bool, true, false, cond}
 use mathlib.Core.List.{List, [], ◌∷◌}
 use Prim.Native.Nat.{ℕ, zero, suc, ◌≤◌, ◌<◌}
+use native.Mathlib.Nat.{lt_of_not-le}
 use native.Mathlib.Omega.{arith}
 use lib.Dec.{ltb, eqb}
 use borrow.Author.Tests.{lt-ltb, le-ltb, ne_eqb, ltb-false, eqb-false}
@@ -38,19 +39,31 @@ pub bounds_refusal_is :
 unfolding bounds_refusal bounds_checks
 bounds_refusal_is h row n o needed room above = first_append (asked_checks h row (n, o)) (room_check needed room ∷ []) (asked_numbered h row n o above)
 
--- so a call's number is that of the earlier checks, or of the workspace where none of them fits
-module _ (h : Head) (row : List ℕ) (n : ℕ) (o : Bool) (needed room : ℕ) (above : 0 < n) where
-  pub refused_early : (r : ℕ) → r ≡ first (asked_checks h row (n, o)) → (r ≡ 0 → ⊥) → r ≡ bounds_refusal h row (n, o) needed room
-  refused_early r e ne = rw (bounds_refusal_is h row n o needed room above, ← e, ne_eqb r 0 ne)
-
-  pub refused_late :
-      (early r : ℕ) → early ≡ first (asked_checks h row (n, o)) → early ≡ 0 → r ≡ first (room_check needed room ∷ []) →
-      r ≡ bounds_refusal h row (n, o) needed room
-  refused_late early r e z f = rw (bounds_refusal_is h row n o needed room above, ← e, z) f
-
 pub room_is : (needed room : ℕ) → first (room_check needed room ∷ []) ≡ cond (ltb room needed) 11 0
 unfolding first
 room_is needed room = refl
+
+-- so a call's number is the plan's, or that of what is asked where the plan has none, or the workspace's where neither has one
+module _ (h : Head) (row : List ℕ) (n : ℕ) (o : Bool) (needed room : ℕ) (above : 0 < n) where
+  bounds_is :
+      bounds_refusal h row (n, o) needed room
+      ≡ cond (eqb (first (asked_checks h row (n, o))) 0) (cond (ltb room needed) 11 0) (first (asked_checks h row (n, o)))
+  bounds_is = bounds_refusal_is h row n o needed room above ∙ rw (room_is needed room)
+
+  pub by_plan : (r : ℕ) → r ≡ plan_refusal h row → 0 < r → r ≡ bounds_refusal h row (n, o) needed room
+  by_plan r e refused = rw (bounds_is, asked_is h row n o, ← e, ne_eqb r 0 (λ z. omega (arith, z, refused)), ne_eqb r 0 (λ z. omega (arith, z, refused)))
+
+  module _ (accepted : Accepted h row) where
+    pub by_asked : (r : ℕ) → r ≡ cond o n 0 → 0 < r → r ≡ bounds_refusal h row (n, o) needed room
+    by_asked r e refused = rw (bounds_is, asked_is h row n o, accepted, ← e, ne_eqb r 0 (λ z. omega (arith, z, refused)))
+
+    pub by_room : (r : ℕ) → 0 ≡ cond o n 0 → r ≡ cond (ltb room needed) 11 0 → r ≡ bounds_refusal h row (n, o) needed room
+    by_room r e f = rw (bounds_is, asked_is h row n o, accepted, ← e, f)
+
+-- what is asked is inside its limits where its check answers 0
+pub inside_limits : (n : ℕ) (o : Bool) → 0 < n → 0 ≡ cond o n 0 → o ≡ false
+inside_limits n true above e = absurd (omega (arith, above, e))
+inside_limits n false above e = refl
 
 -- what is known of a plan and of what is asked of it, where no check fits, and of the workspace too
 pub record Asked (h : Head) (row : List ℕ) (o : Bool) (needed room : ℕ) : Type 0 where
@@ -88,6 +101,11 @@ month_inside h t e =
 pub inside_month : (h : Head) (t : ℕ) → 0 < t → t ≤ h.months → month_outside h t ≡ false
 unfolding month_outside
 inside_month h t above l = rw (ne_eqb t 0 (λ z. omega (arith, z)), le-ltb h.months t l)
+
+pub beyond_months : (h : Head) (t : ℕ) → (1 ≤ t → t ≤ h.months → ⊥) → month_outside h t ≡ true
+unfolding month_outside
+beyond_months h zero out = refl
+beyond_months h (suc t) out = rw (ne_eqb (suc t) 0 (λ z. omega (arith, z)), lt-ltb h.months (suc t) (lt_of_not-le (out (omega arith))))
 
 -- and the other way round: nothing refuses
 pub not_refused :

@@ -1,63 +1,57 @@
 // When a call that answers two bounds is turned away, in the order of the refusal table.
-ghost use Rattle.std.specs.Prelude.{◌≡◌, false, ◌<◌};
-ghost use Rattle.model.specs.Refusal.{first, asked_checks, workspace_needed, month_outside, bounds_refusal, ask_refusal, ruin_refusal};
-ghost use Rattle.model.specs.Refusal.{outside as Refusal·outside};
+ghost use Rattle.std.specs.Prelude.{◌≡◌, cond, ltb, false};
+ghost use Rattle.model.specs.Refusal.{refused_with, outside, month_outside, workspace_needed, HeadAccepted, ask_refusal, ruin_refusal};
 
 use crate::needs::{is_outside, workspace_needed};
-use model::{Ask, Head, Question};
+use model::{Ask, Head, Question, Refusal};
+use plan::check_plan;
 
-// The checks of the plan, then the number of what is asked of it, where that is outside the limits.
-pub fn asked_refusal(head: Head, row: &[u32], number: u32, outside: bool) -> u32
-    ensures { result ≡ first (asked_checks head row.now (number, outside)) }
+// 10 for the number of a question.
+pub fn check_question(question: Question) -> Result<(), Refusal>
+    ensures { refused_with result ≡ cond (outside question) 10 0 }
 {
-    let of_plan = plan::plan_refusal(head, row);
-    if of_plan != 0 {
-        return of_plan;
+    if is_outside(question) {
+        return Err(Refusal::Outside);
     }
-    if outside { number } else { 0 }
+    Ok(())
 }
 
-// Those checks, then 11 where the workspace is shorter than the question needs, which has to be within its limits where what is asked is.
-pub fn bounds_refusal(ask: Ask, row: &[u32], number: u32, outside: bool, room: usize) -> u32
-    requires number_nonzero { 0 < number }
-    requires question_value { outside ≡ false → Refusal·outside ask.question ≡ false }
-    ensures { result ≡ bounds_refusal ask.head row.now (number, outside) (workspace_needed ask) room }
+// 10 for a month, which are counted from 1.
+fn check_month(head: Head, month: usize) -> Result<(), Refusal>
+    ensures { refused_with result ≡ cond (month_outside head month) 10 0 }
 {
-    let head = ask.head;
-    let refused = asked_refusal(head, row, number, outside);
-    if refused != 0 {
-        return refused;
+    if !(1..=head.months).contains(&month) {
+        return Err(Refusal::Outside);
     }
-    if room < workspace_needed(ask) { 11 } else { 0 }
+    Ok(())
 }
 
-pub fn ask_refusal(ask: Ask, row: &[u32], room: usize) -> u32
-    ensures { result ≡ ask_refusal ask row.now room }
+// 11 for a workspace that is shorter than a question needs.
+pub fn check_room(ask: Ask, room: usize) -> Result<(), Refusal>
+    requires head_accepted { HeadAccepted ask.head }
+    requires question_value { outside ask.question ≡ false }
+    ensures { refused_with result ≡ cond (ltb room (workspace_needed ask)) 11 0 }
 {
-    let question = ask.question;
-    bounds_refusal(ask, row, 10, is_outside(question), room)
+    if room < workspace_needed(ask) {
+        return Err(Refusal::Workspace);
+    }
+    Ok(())
 }
 
-// Months are counted from 1.
-fn month_is_outside(head: Head, month: usize) -> bool
-    ensures { result ≡ month_outside head month }
+pub fn check_ask(ask: Ask, row: &[u32], room: usize) -> Result<(), Refusal>
+    ensures { refused_with result ≡ ask_refusal ask row.now room }
 {
-    if month < 1 {
-        return true;
-    }
-    head.months < month
+    check_plan(ask.head, row)?;
+    check_question(ask.question)?;
+    check_room(ask, room)
 }
 
 // In the workspace of survive.
-pub fn ruin_refusal(head: Head, month: usize, row: &[u32], room: usize) -> u32
-    ensures { result ≡ ruin_refusal head month row.now room }
+pub fn check_ruin(head: Head, month: usize, row: &[u32], room: usize) -> Result<(), Refusal>
+    ensures { refused_with result ≡ ruin_refusal head month row.now room }
 {
     let question = Question::Survive;
-    bounds_refusal(
-        Ask { head, question },
-        row,
-        10,
-        month_is_outside(head, month),
-        room,
-    )
+    check_plan(head, row)?;
+    check_month(head, month)?;
+    check_room(Ask { head, question }, room)
 }
