@@ -2,9 +2,7 @@
 use Prim.Native.Nat.{ℕ}
 use mathlib.Core.Path.{◌≡◌, refl}
 use Rattle.model.specs.declared.Head.{Head}
-use Rattle.codec.specs.declared.ReadAnswer.{ReadAnswer}
-use Rattle.codec.specs.declared.WriteAnswer.{WriteAnswer}
-use Rattle.codec.specs.Answers.{no_head, head_answer, length_answer}
+use Rattle.codec.specs.Answers.{ReadAnswer, WriteAnswer, no_head, head_answer, length_answer}
 use Rattle.model.proofs.MemoryLaws.{when_none, when_refused, same_number}
 
 abbrev pub read_as : ℕ → Head → ReadAnswer

@@ -1,10 +1,10 @@
 -- Laws of a refusal's number: it is not 0, so that 0 says that nothing is refused.
 use Prim.Native.Nat.{ℕ, ◌≤◌, ◌<◌}
-use mathlib.Core.Path.{◌≡◌, sym, ◌∙◌}
+use mathlib.Core.Path.{◌≡◌, ap, ◌∙◌}
 use native.Mathlib.Omega.{arith}
 use Rattle.model.specs.declared.refusal.Refusal.{Refusal}
 use Rattle.model.specs.declared.refusal.Refusal.TheVariants.{Stub, Horizon, Opening, Sizes, Length, Padding, Chance, Weights, Tail, Outside, Workspace, Kind, Rule, Target, Unreached, Income, Span, Mixture}
-use Rattle.std.specs.Prelude.{Result}
+use Rattle.std.specs.Prelude.{Result, Err}
 use Rattle.std.specs.Result.{IsErrAnd}
 use Rattle.std.proofs.lemmas.Result.{err_from_is_err_and}
 use Rattle.model.specs.Refusal.{refusal_number, refused_with}
@@ -34,5 +34,8 @@ pub not_accepted : (r : Refusal) (n : ℕ) → refusal_number r ≡ n → n ≡ 
 not_accepted r n is zero = omega (arith, number_above_0 r, is, zero)
 
 -- a refusal that `?` hands on
+pub handed_on : {A : Type 0} (r : Result A Refusal) (e : Refusal) → IsErrAnd r (λ y. y ≡ e) → r ≡ Err e
+handed_on r e h = let p = err_from_is_err_and r h in p.1 ∙ ap (λ y. Err y) p.2
+
 pub passed_on : {A : Type 0} (r : Result A Refusal) (e : Refusal) → IsErrAnd r (λ y. y ≡ e) → refused_with r ≡ refusal_number e
-passed_on r e h = let p = err_from_is_err_and r h in rw (p.1, p.2)
+passed_on r e h = ap refused_with (handed_on r e h)

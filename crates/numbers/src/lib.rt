@@ -43,10 +43,8 @@ pub fn big_endian(bytes: &[u8], at: usize, count: usize) -> usize
     ensures fits { result < 2 ^ (8 * count) }
 {
     let mut x: usize = 0;
-    let mut k: usize = 0;
-    while k < count {
-        x = x * 256 + index(bytes[at + k]);
-        k += 1;
+    for k in at..at + count {
+        x = x * 256 + usize::from(bytes[k]);
     }
     x
 }

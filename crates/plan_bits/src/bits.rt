@@ -26,10 +26,8 @@ pub fn field(bytes: &[u8], from: usize, width: usize) -> u32
     ensures { result ≡ number (take width (drop from (bits_of bytes.now))) }
 {
     let mut x: u32 = 0;
-    let mut k: usize = 0;
-    while k < width {
+    for k in 0..width {
         x = x * 2 + bit(bytes, from + k);
-        k += 1;
     }
     x
 }

@@ -1,11 +1,13 @@
 // Reading: what bytes mean, and the first thing wrong with them.
 ghost use Rattle.std.specs.Prelude.{◌≡◌, ◌≤◌, length, drop};
 ghost use Rattle.model.specs.Format.{number_width, head_bits, head_bytes, bits_of, fields, head_of};
-ghost use Rattle.model.specs.Refusal.{plan_refusal, read_refusal};
+ghost use Rattle.model.specs.Refusal.{refused_with, plan_refusal, read_refusal};
 ghost use Rattle.plan_bits.specs.Rows.{RowWithin};
 
 use crate::{bits, format};
-use model::{Head, limits};
+use model::{Head, Refusal, limits};
+use plan::lengths::row_length;
+use plan::{check_head, check_plan};
 
 // The head that bytes begin with.
 pub fn head_of(bytes: &[u8]) -> Head
@@ -29,50 +31,42 @@ pub fn decode(bytes: &[u8], row: &mut [u32])
     requires { RowWithin bytes.now (length row.old) }
     ensures { row.new ≡ fields number_width (length row.old) (drop head_bits (bits_of bytes.now)) }
 {
-    let mut i = 0;
-    while i < row.len() {
+    for i in 0..row.len() {
         row[i] = bits::field(bytes, format::HEAD + format::NUMBER * i, format::NUMBER);
-        i += 1;
     }
 }
 
-// The refusal of a head and the numbers that follow it, which are read into a row of its own.
-fn numbers_refusal(bytes: &[u8], head: Head, count: usize) -> u32
+// The checks of a head and the numbers that follow it, which are read into a row of its own.
+fn check_numbers(bytes: &[u8], head: Head, count: usize) -> Result<(), Refusal>
     requires { RowWithin bytes.now count }
-    ensures { result ≡ plan_refusal head (fields number_width count (drop head_bits (bits_of bytes.now))) }
+    ensures { refused_with result ≡ plan_refusal head (fields number_width count (drop head_bits (bits_of bytes.now))) }
 {
     let mut row = [0u32; limits::ROW];
     decode(bytes, &mut row[..count]);
-    plan::plan_refusal(head, &row[..count])
+    check_plan(head, &row[..count])
 }
 
-// The first refusal of the table that fits bytes and a lent row of the given length, 0 if there is none.
-pub fn refusal(bytes: &[u8], room: usize) -> u32
-    ensures { result ≡ read_refusal bytes.now room }
+// The first refusal of the table that fits bytes and a lent row of the given length.
+pub fn check(bytes: &[u8], room: usize) -> Result<(), Refusal>
+    ensures { refused_with result ≡ read_refusal bytes.now room }
 {
     if bytes.len() < format::HEAD_BYTES {
-        return 1;
+        return Err(Refusal::Stub);
     }
     let head = head_of(bytes);
-    let head_refused = plan::head_refusal(head);
-    if head_refused != 0 {
-        return head_refused;
-    }
+    check_head(head)?;
     if bytes.len() != format::byte_length(head) {
-        return 5;
+        return Err(Refusal::Length);
     }
     let end = format::bit_length(head);
     let fill = 8 * bytes.len() - end;
     if bits::field(bytes, end, fill) != 0 {
-        return 6;
+        return Err(Refusal::Padding);
     }
-    let count = plan::lengths::row_length(head);
-    let row_refused = numbers_refusal(bytes, head, count);
-    if row_refused != 0 {
-        return row_refused;
-    }
+    let count = row_length(head);
+    check_numbers(bytes, head, count)?;
     if room < count {
-        return 11;
+        return Err(Refusal::Workspace);
     }
-    0
+    Ok(())
 }

@@ -1,10 +1,11 @@
 // Writing: the bits of a plan, byte by byte.
 ghost use Rattle.std.specs.Prelude.{◌≡◌, ◌+◌, ◌*◌, ◌≤◌, length, get_or, take, drop};
 ghost use Rattle.model.specs.Format.{number, plan_bits, filled_bits, byte_length, bytes_of};
-ghost use Rattle.model.specs.Refusal.{Accepted, write_refusal};
+ghost use Rattle.model.specs.Refusal.{Accepted, refused_with, write_refusal};
 
 use crate::{bits, format};
-use model::Head;
+use model::{Head, Refusal};
+use plan::check_plan;
 
 // The bit at a position of a plan, 0 past its end.
 fn bit(head: Head, row: &[u32], at: usize) -> u32
@@ -42,10 +43,8 @@ fn byte(head: Head, row: &[u32], from: usize) -> u8
     ensures { result ≡ number (take 8 (drop from (filled_bits head row.now))) }
 {
     let mut x: u32 = 0;
-    let mut k: usize = 0;
-    while k < 8 {
+    for k in 0..8 {
         x = x * 2 + bit(head, row, from + k);
-        k += 1;
     }
     x as u8
 }
@@ -55,23 +54,18 @@ pub fn encode(head: Head, row: &[u32], bytes: &mut [u8])
     requires { Accepted head row.now × (length bytes.old ≡ byte_length head) }
     ensures { bytes.new ≡ bytes_of head row.now }
 {
-    let mut i = 0;
-    while i < bytes.len() {
+    for i in 0..bytes.len() {
         bytes[i] = byte(head, row, 8 * i);
-        i += 1;
     }
 }
 
-// The first refusal of the table that fits a head, a row and lent bytes of the given length, 0 if there is none.
-pub fn refusal(head: Head, row: &[u32], room: usize) -> u32
-    ensures { result ≡ write_refusal head row.now room }
+// The first refusal of the table that fits a head, a row and lent bytes of the given length.
+pub fn check(head: Head, row: &[u32], room: usize) -> Result<(), Refusal>
+    ensures { refused_with result ≡ write_refusal head row.now room }
 {
-    let refused = plan::plan_refusal(head, row);
-    if refused != 0 {
-        return refused;
-    }
+    check_plan(head, row)?;
     if room < format::byte_length(head) {
-        return 11;
+        return Err(Refusal::Workspace);
     }
-    0
+    Ok(())
 }

@@ -15,20 +15,17 @@ pub field-requires : goal.field-requires
 unfolding head_bits
 field-requires c = omega arith
 
-pub loop-i-smaller : goal.loop-i-smaller
-loop-i-smaller c = simp length-set (omega arith)
-
 pub loop-i-preserved : goal.loop-i-preserved
 unfolding head_bits
 loop-i-preserved c =
     filling_more _ _ _ _
     c.loop-i.invariant
     _
-    c.loop-i-test.true
+    (omega (arith, c.loop-i-test.true, c.loop-i.invariant.same))
     (c.field.ensures ∙ ap (λ l. number (take number_width l)) (sym (drop-drop (number_width * c.loop-i.i) head_bits _)))
 
 pub shape_of-row : goal.shape_of-row
 shape_of-row c = c.loop-i.invariant.same
 
 pub returns : goal.returns
-returns c = filling_done _ _ _ _ c.loop-i.invariant c.loop-i-test.false ∙ fields_are number_width _ _
+returns c = filling_done _ _ _ _ c.loop-i.invariant (omega (arith, c.loop-i-test.false, c.loop-i.invariant.same)) ∙ fields_are number_width _ _

@@ -17,11 +17,8 @@ overflow_mul-i c = omega (arith, longest_between, byte_length_fits _ (accepted_h
 pub byte-requires : goal.byte-requires
 byte-requires c = (c.requires.0, omega arith)
 
-pub loop-i-smaller : goal.loop-i-smaller
-loop-i-smaller c = simp length-set (omega arith)
-
 pub loop-i-preserved : goal.loop-i-preserved
-loop-i-preserved c = filling_more _ _ _ _ c.loop-i.invariant _ c.loop-i-test.true c.byte.ensures
+loop-i-preserved c = filling_more _ _ _ _ c.loop-i.invariant _ (omega (arith, c.loop-i-test.true, c.loop-i.invariant.same)) c.byte.ensures
 
 pub shape_of-bytes : goal.shape_of-bytes
 shape_of-bytes c = c.loop-i.invariant.same
@@ -29,6 +26,6 @@ shape_of-bytes c = c.loop-i.invariant.same
 pub returns : goal.returns
 unfolding bytes_of
 returns c =
-    filling_done _ _ _ _ c.loop-i.invariant c.loop-i-test.false
+    filling_done _ _ _ _ c.loop-i.invariant (omega (arith, c.loop-i-test.false, c.loop-i.invariant.same))
     ∙ fields_are 8 _ _
     ∙ ap (λ n. fields 8 n (filled_bits c.args.head c.args.row.now)) c.requires.1

@@ -1,4 +1,4 @@
--- `plan_bits::reading::numbers_refusal` meets its contract: the first numbers of its row are those that follow the head.
+-- `plan_bits::reading::check_numbers` meets its contract: the first numbers of its row are those that follow the head.
 use Prim.Native.Nat.{ℕ, ◌≤◌}
 use mathlib.Core.Path.{◌≡◌, sym, ap, ◌∙◌}
 use native.Mathlib.Omega.{arith}
@@ -8,8 +8,8 @@ use Rattle.model.specs.Limits.{row_room}
 use Rattle.model.specs.Format.{number_width, head_bits, bits_of, fields}
 use Rattle.model.specs.Refusal.{plan_refusal}
 use Rattle.plan_bits.proofs.Fields.{length_fields}
-use Rattle.plan_bits.proofs.reading.numbers_refusal.Goals as goal
-use Rattle.plan_bits.proofs.reading.numbers_refusal.Goals.{After-decode}
+use Rattle.plan_bits.proofs.reading.check_numbers.Goals as goal
+use Rattle.plan_bits.proofs.reading.check_numbers.Goals.{After-decode}
 
 -- the part that is lent has as many numbers as are asked for
 lent_length : (count : ℕ) → count ≤ row_room → length {A = ℕ} (take count (replicate row_room 0)) ≡ count
@@ -31,11 +31,11 @@ decoded-length c = ap length (decoded c) ∙ length_fields number_width _ _
 pub slice_bounds-row-end-2 : goal.slice_bounds-row-end-2
 slice_bounds-row-end-2 c = simp length-append (omega (arith, decoded-length (goal.at.slice_bounds-row-end-2 c).After-decode))
 
-pub slice_bounds-plan_refusal-end : goal.slice_bounds-plan_refusal-end
-slice_bounds-plan_refusal-end c =
-    sym (length-take-le _ _ (simp length-append (omega (arith, decoded-length (goal.at.slice_bounds-plan_refusal-end c).After-decode))))
+pub slice_bounds-check_plan-end : goal.slice_bounds-check_plan-end
+slice_bounds-check_plan-end c =
+    sym (length-take-le _ _ (simp length-append (omega (arith, decoded-length (goal.at.slice_bounds-check_plan-end c).After-decode))))
 
 pub returns : goal.returns
 returns c =
-    c.plan_refusal.ensures
+    c.check_plan.ensures
     ∙ ap (plan_refusal c.args.head) (take_at _ _ _ (decoded-length (goal.at.returns c).After-decode) ∙ decoded (goal.at.returns c).After-decode)
