@@ -43,8 +43,8 @@ pub fn big_endian(bytes: &[u8], at: usize, count: usize) -> usize
     ensures fits { result < 2 ^ (8 * count) }
 {
     let mut x: usize = 0;
-    for k in at..at + count {
-        x = x * 256 + usize::from(bytes[k]);
+    for byte in &bytes[at..at + count] {
+        x = x * 256 + usize::from(*byte);
     }
     x
 }
