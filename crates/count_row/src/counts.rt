@@ -16,10 +16,8 @@ fn count_month(row: &mut [u32], chance: u32, round: Rounding)
     requires { (0 < length row.old) × Parts row.old × (chance ≤ S) }
     ensures { row.new ≡ tabulate (length row.old) (count_month round chance (at row.old)) }
 {
-    let mut k = row.len() - 1;
-    while k > 0 {
+    for k in (1..row.len()).rev() {
         row[k] = mixture(chance, row[k], row[k - 1], round);
-        k -= 1;
     }
     row[0] = mixture(chance, row[0], 0, round);
 }
@@ -71,10 +69,8 @@ pub fn count_rows(chances: &[u32]) -> CountRow
     ensures { result ≡ count_rows chances.now }
 {
     let mut row = first_rows();
-    let mut t = 0;
-    while t < chances.len() {
-        row = row.month(chances[t]);
-        t += 1;
+    for chance in chances {
+        row = row.month(*chance);
     }
     row
 }

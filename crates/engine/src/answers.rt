@@ -11,7 +11,7 @@ ghost use Rattle.engine.specs.LastRows.{LastFits, Workable, opening_value};
 use crate::Answer;
 use crate::bounds::{LastRows, bounds_from};
 use model::Head;
-use month_rows::rows::{Shape, fill};
+use month_rows::rows::Shape;
 
 pub fn refused(refusal: u32) -> Answer
     ensures { result ≡ Answers·refused refusal }
@@ -30,7 +30,7 @@ pub fn none_allowed(needed: usize, workspace: &mut [u32]) -> Answer
     ensures answered { result ≡ bounds_answer 0 0 0 }
     ensures cleared { workspace.new ≡ replicate needed 0 ++ drop needed workspace.old }
 {
-    fill(&mut workspace[..needed], 0);
+    workspace[..needed].fill(0);
     let chance = 0;
     Answer {
         refusal: 0,

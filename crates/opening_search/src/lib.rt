@@ -50,13 +50,11 @@ pub fn least(head: Head, row: &[u32], target: u32, workspace: &mut [u32]) -> Lea
     )
 }
 
+#[tactic(auto, unfolding(crate::specs::Refusal::target_outside, model::specs::Scale::S))]
 fn target_is_outside(target: u32) -> bool
     ensures { result ≡ target_outside target }
 {
-    if target < 1 {
-        return true;
-    }
-    model::SCALE < target
+    target < 1 || model::SCALE < target
 }
 
 // All checks that come before the search, in the workspace of survive.

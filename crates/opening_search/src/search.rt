@@ -10,7 +10,6 @@ ghost use Rattle.opening_search.specs.Answers.{refused as Answers·refused};
 
 use crate::LeastAnswer;
 use claims::sizes::list_sizes;
-use month_rows::rows::fill;
 use target_rows::rows::{least_lower, upper_at};
 
 pub fn refused(refusal: u32) -> LeastAnswer
@@ -42,8 +41,8 @@ fn listed_search(
     ensures cleared { workspace.new ≡ replicate (length workspace.old) 0 }
 {
     let half = opening + income * chances.len() + 1;
-    fill(workspace, 0);
-    let found = least_lower(
+    workspace.fill(0);
+    let Some(found) = least_lower(
         &mut workspace[..half],
         opening,
         income,
@@ -52,11 +51,10 @@ fn listed_search(
         sizes,
         dense,
         target,
-    );
-    let least = found.opening;
-    if opening < least {
+    ) else {
         return refused(15);
-    }
+    };
+    let least = found.opening;
     let upper = upper_at(
         &mut workspace[half..],
         least,

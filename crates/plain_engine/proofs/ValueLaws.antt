@@ -6,9 +6,10 @@ use mathlib.Core.List.{List}
 use mathlib.Core.Option.{Option, none, some}
 use Prim.Native.Nat.{ℕ, zero, suc, ◌+◌, ◌*◌, ◌-◌, ◌/◌, ◌%◌, ◌≤◌, zero-le, ◌<◌, min}
 use native.Mathlib.Nat.{div-add-mod', eq-or-lt_of_le}
+use native.Mathlib.Numerals.{add-one}
 use native.Mathlib.Omega.{arith}
 use lib.ListN.{length, get_or, take, drop, length-drop}
-use lib.Seq.{get_or-drop, length-take-le}
+use lib.Seq.{get_or-drop, get_or-take, length-take-le}
 use Rattle.model.specs.declared.Rounding.{Rounding}
 use Rattle.model.specs.declared.Question.{Question}
 use Rattle.model.specs.Limits.{small_income}
@@ -48,10 +49,19 @@ some_unplaced zero s ne = absurd (ne refl)
 some_unplaced (suc k) s ne = refl
 
 -- at most all sizes
-pub followed_within : (o : Option ℕ) (n : ℕ) → sizes_followed o n ≤ n
+followed_within : (o : Option ℕ) (n : ℕ) → sizes_followed o n ≤ n
 unfolding sizes_followed
 followed_within none n = zero-le
 followed_within (some k) n = omega arith
+
+-- the sizes that are followed: each has a weight and is at most the level, so that it does not ruin
+pub record Inside (F : List ℕ) (s most : ℕ) : Type 0 where
+  pub level : most ≤ s
+  pub all : length (take most F) ≡ most
+
+pub followed_inside : (o : Option ℕ) (range : ℕ) (F : List ℕ) (s most : ℕ) → range ≡ min s (length F) → most ≡ sizes_followed o range → Inside F s most
+followed_inside o range F s most er em =
+    record { level = omega (arith, followed_within o range); all = length-take-le most F (omega (arith, followed_within o range)) }
 
 -- the rows that a value reads: those of the months that follow it, with forbidden levels taken as 0
 abbrev pub rows_after : Rounding → Question → List ℕ → List ℕ → ℕ → Row
@@ -70,10 +80,12 @@ followed_sum F rows none s most range fewer er em ef = rw em (sym (claim_sum_zer
 followed_sum F rows (some k) s most range fewer er em ef = let e : s + small_income - 1 ≡ s = omega arith in rw (e, em, er, ef)
 
 -- a product, from a weight that was read one place before its size, and the value that the claim leads to
-pub term_is : (F : List ℕ) (row : Row) (s x v r : ℕ) → 0 < x → r ≡ get_or F (x - 1) 0 * v → v ≡ row (s + small_income - x) → r ≡ claim_term F row s x
+pub term_is :
+    (F : List ℕ) (row : Row) (s most i v r : ℕ) → i < most → r ≡ get_or (take most F) i 0 * v → v ≡ row (s - i) → r ≡ claim_term F row s (suc i)
 unfolding nth
-term_is F row s zero v r l er ev = absurd (omega arith)
-term_is F row s (suc x) v r l er ev = let place : suc x - 1 ≡ x = omega arith in rw (← ev) (rw place at er)
+term_is F row s most i v r l er ev =
+    let down : s + small_income - suc i ≡ s - i = omega arith in
+    rw (down, ← ev) (er ∙ ap (λ (w : ℕ). w * v) (get_or-take most F i 0 l))
 
 sum_part : (f : ℕ → ℕ) (n i : ℕ) → i ≤ n → sum i f ≤ sum n f
 sum_part f zero zero l = omega arith
@@ -84,24 +96,13 @@ sum_part f (suc n) i l =
     (λ (m : i < suc n). omega (arith, sum_part f n i (omega arith), sum_last n f))
     (eq-or-lt_of_le l)
 
--- The loop over the sizes from 1 up: the sum so far is that of the sizes before x.
-pub record Summing (f : ℕ → ℕ) (most so_far x : ℕ) : Type 0 where
-  pub some : 0 < x
-  pub within : x ≤ most + 1
-  pub is : so_far ≡ sum (x - 1) f
-
+-- the sum so far takes one size more, and stays within that of all
 pub summing_turn :
-    (f : ℕ → ℕ) (most so_far x term : ℕ) → x ≤ most → term ≡ f x → Summing f most so_far x →
-    (so_far + term ≤ sum most f) × Summing f most (so_far + term) (x + 1)
-summing_turn f most so_far zero term l e h = absurd (omega (arith, h.some))
-summing_turn f most so_far (suc i) term l e h =
-    let place : suc i - 1 ≡ i = omega arith in
-    let next : suc i + 1 - 1 ≡ suc i = omega arith in
-    let more : so_far + term ≡ sum (suc i) f = omega (arith, rw place at h.is, sum_last i f) in
-    (omega (arith, more, sum_part f most (suc i) l), record { some = omega arith; within = omega arith; is = rw next more })
-
-pub summing_end : (f : ℕ → ℕ) (most so_far x : ℕ) → most < x → Summing f most so_far x → so_far ≡ sum most f
-summing_end f most so_far x l h = let all : x - 1 ≡ most = omega (arith, h.within) in rw (← all) h.is
+    (f : ℕ → ℕ) (most so_far i term : ℕ) → i < most → term ≡ f (suc i) → so_far ≡ sum i f →
+    (so_far + term ≤ sum most f) × (so_far + term ≡ sum (i + 1) f)
+summing_turn f most so_far i term l e h =
+    let more : so_far + term ≡ sum (suc i) f = omega (arith, sum_last i f) in
+    (omega (arith, more, sum_part f most (suc i) l), rw add-one more)
 
 -- one month fewer
 pub fewer_months : (Ps : List ℕ) → length (take (length Ps - 1) (drop 1 Ps)) ≡ length Ps - 1

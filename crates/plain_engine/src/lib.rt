@@ -19,15 +19,13 @@ use questions::needs::is_outside;
 use questions::refusals::asked_refusal;
 
 // The plan's checks, then 10 where the plan is too large or the question outside its limits.
+#[tactic(auto, unfolding(crate::specs::Answers::plain_refusal))]
 pub fn refusal(ask: Ask, row: &[u32]) -> u32
     ensures { result ≡ plain_refusal ask row.now }
 {
     let head = ask.head;
     let question = ask.question;
-    if is_large(head) {
-        return asked_refusal(head, row, 10, true);
-    }
-    asked_refusal(head, row, 10, is_outside(question))
+    asked_refusal(head, row, 10, is_large(head) || is_outside(question))
 }
 
 // Answers one question about the small plan of the ask's head and the row, as `engine::ask` does with a large enough workspace.

@@ -5,19 +5,15 @@ ghost use Rattle.plain_engine.specs.Answers.{too_large};
 ghost use Rattle.plain_engine.specs.Steps.{left_after, sizes_followed};
 
 use model::{Head, Question, SCALE, limits};
-use numbers::difference;
 
 // Whether a plan is too large to be followed month by month.
+#[tactic(auto, unfolding(crate::specs::Answers::too_large))]
 pub fn is_large(head: Head) -> bool
     ensures { result ≡ too_large head }
 {
-    if limits::SMALL_MONTHS < head.months {
-        return true;
-    }
-    if limits::SMALL_OPENING < head.opening {
-        return true;
-    }
-    head.income != limits::SMALL_INCOME
+    limits::SMALL_MONTHS < head.months
+        || limits::SMALL_OPENING < head.opening
+        || head.income != limits::SMALL_INCOME
 }
 
 // Whether a question allows a level at the end of a month.
@@ -52,7 +48,7 @@ pub fn claims_after(question: Question, left: usize) -> usize
 {
     match question {
         Question::Survive => left,
-        Question::Both(_) => difference(left, 1),
+        Question::Both(_) => left.saturating_sub(1),
         Question::High(_) => left,
         Question::Low(_) => left,
     }

@@ -6,7 +6,7 @@ ghost use Rattle.plain_engine.specs.Steps.{Terms};
 
 use crate::steps::{claims_after, followed, last_value, level_value, taken};
 use model::{Question, Rounding, WIDE_SCALE};
-use numbers::{lesser, product};
+use numbers::product;
 use questions::needs::opening_allowed;
 use rounding::month_value;
 
@@ -34,14 +34,13 @@ pub fn value(
         value(question, later, severity, left, up, round),
     );
     let fewer = claims_after(question, left);
-    let most = followed(question, left, lesser(level, severity.len()));
+    let most = followed(question, left, level.min(severity.len()));
     let mut sum: u64 = 0;
-    let mut x = 1;
-    while x <= most {
-        let down = up - x;
+    for (i, weight) in severity[..most].iter().enumerate() {
+        // The claim is of size i + 1.
+        let down = level - i;
         let after = value(question, later, severity, fewer, down, round);
-        sum += product(severity[x - 1], level_value(question, down, after));
-        x += 1;
+        sum += product(*weight, level_value(question, down, after));
     }
     // The sum is divided by S, document 01's A; what is left over goes into the month's one rounding.
     month_value(chances[0], quiet, sum / WIDE_SCALE, sum % WIDE_SCALE, round)

@@ -56,8 +56,8 @@ fn check(head: Head, row: &[u32], room: usize, places: usize) -> u32
         return of_plan;
     }
     let opening = head.opening;
-    if room < 2 * row_levels(head) {
+    if room < 2 * row_levels(head) || places < 2 * (opening + 1) {
         return 11;
     }
-    if places < 2 * (opening + 1) { 11 } else { 0 }
+    0
 }

@@ -8,7 +8,7 @@ ghost use Rattle.survival.specs.Openings.{interleaved};
 ghost use Rattle.questions.specs.Survival.{survival_row};
 
 use model::Question;
-use month_rows::rows::{fill, value_at};
+use month_rows::rows::value_at;
 use month_rule::halves::{halves_back, last_halves};
 use questions::needs::shape_of;
 
@@ -18,14 +18,12 @@ fn put_pairs(pairs: &mut [u32], halves: &[u32], half: usize, top: usize)
     requires top_lt_half { (top < half) × (length halves.now ≡ 2 * half) }
     ensures { pairs.new ≡ interleaved (top + 1) (from_top top (take half halves.now)) (from_top top (drop half halves.now)) }
 {
-    let mut level = 0;
-    while level <= top {
+    for level in 0..top + 1 {
         let lower = value_at(&halves[..half], top, level);
         let upper = value_at(&halves[half..], top, level);
         let place = 2 * level;
         pairs[place] = lower;
         pairs[place + 1] = upper;
-        level += 1;
     }
 }
 
@@ -50,5 +48,5 @@ pub fn put_openings(
     last_halves(workspace, shape);
     halves_back(workspace, shape, opening, chances, severity);
     put_pairs(bounds, workspace, half, opening);
-    fill(workspace, 0);
+    workspace.fill(0);
 }

@@ -1,5 +1,5 @@
 -- The rows of survival held against a target, for the functions below the call.
-use Rattle.std.specs.Prelude.{ℕ, ◌+◌, ◌-◌, ◌<◌, ◌≤◌, cond, List, leb, ltb, length, drop}
+use Rattle.std.specs.Prelude.{ℕ, ◌+◌, ◌-◌, ◌<◌, ◌≤◌, cond, List, Option, Some, None, leb, ltb, length, drop}
 use Rattle.model.specs.declared.Rounding.TheVariants.{Down}
 use Rattle.model.specs.Levels.{largest_level}
 use Rattle.model.specs.MonthRule.{Row}
@@ -25,6 +25,11 @@ pub record GivenUp (income : ℕ) (severity : List ℕ) (opening : ℕ) (chances
   pub reached : (t : ℕ) → month ≤ t → t ≤ length chances → Reaches target (largest_level income opening t) (survival_row Down income severity (drop t chances))
   pub below : 0 < month → Below target (largest_level income opening (month - 1)) (survival_row Down income severity (drop (month - 1) chances))
 
+-- the month where it was given up, of months from 1 on, and 0 where it was not
+abbrev pub given_month : Option ℕ → ℕ
+given_month None = 0
+given_month (Some t) = t + 1
+
 -- What a walk back through the months takes beside its row, of so many numbers: the plan's terms, its filled sizes as they are listed, an income, and an opening
 -- from which no month leads past the row.
 pub record Walk (size income opening : ℕ) (chances severity sizes : List ℕ) (dense : ℕ) : Type 0 where
@@ -39,3 +44,8 @@ least_found income severity opening chances target = record { opening = v; lower
   where
     v : ℕ
     v = least (opening + 1) (λ s. leb target (survival_row Down income severity chances s))
+
+-- what was found as these have it: one above the largest opening, and 0, for none
+abbrev pub found_of : ℕ → Option Found → Found
+found_of opening None = record { opening = opening + 1; lower = 0 }
+found_of opening (Some f) = f

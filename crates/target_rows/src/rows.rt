@@ -1,5 +1,5 @@
 // The row of the lower bounds and that of the upper, each in lent memory of its own: it is filled, taken back through the months, read and all 0 again.
-ghost use Rattle.std.specs.Prelude.{◌≡◌, ◌+◌, ◌-◌, ◌<◌, ◌≤◌, leb, length, drop, replicate};
+ghost use Rattle.std.specs.Prelude.{◌≡◌, ◌+◌, ◌-◌, ◌<◌, ◌≤◌, IfSome, leb, length, drop, replicate};
 ghost use Rattle.model.specs.declared.Rounding.TheVariants.{Down, Up};
 ghost use Rattle.model.specs.declared.Question.TheVariants.{Survive};
 ghost use Rattle.model.specs.Scale.{S};
@@ -9,15 +9,15 @@ ghost use Rattle.month_rule.specs.Months.{TakenBack};
 ghost use Rattle.questions.specs.Needs.{shape_of};
 ghost use Rattle.questions.specs.Survival.{survival_row};
 ghost use Rattle.target_rows.specs.Least.{least};
-ghost use Rattle.target_rows.specs.Rows.{Reaches, GivenUp, Walk, least_found};
+ghost use Rattle.target_rows.specs.Rows.{Reaches, GivenUp, Walk, given_month, least_found, found_of};
 
 use model::{Question, Rounding};
-use month_rows::rows::{fill, value_at};
+use month_rows::rows::value_at;
 use month_rule::months::{all_months_back, month_back};
 use questions::needs::shape_of;
 
-// The row of lower bounds from S back through the months, until no level of it reaches the target any more. Answers the month in which it was given up, 0 if
-// it was not: no value of an earlier month is above the row's largest.
+// The row of lower bounds from S back through the months, until no level of it reaches the target any more. Answers the month in which it was given up, of months
+// from 0 on: no value of an earlier month is above the row's largest.
 fn lower_back(
     row: &mut [u32],
     opening: usize,
@@ -27,18 +27,18 @@ fn lower_back(
     sizes: &[usize],
     dense: usize,
     target: u32,
-) -> usize
+) -> Option<usize>
     requires walk { Walk (length row.old) income opening chances.now severity.now sizes.now dense }
     requires target_nonzero { (0 < target) × (target ≤ S) }
-    ensures given { GivenUp income severity.now opening chances.now target result }
-    ensures back { TakenBack Down severity.now (shape_of Survive (length row.old) income) (largest_level income opening (result - 1)) (drop (result - 1) chances.now)
+    ensures given { GivenUp income severity.now opening chances.now target (given_month result) }
+    ensures back { TakenBack Down severity.now (shape_of Survive (length row.old) income) (largest_level income opening (given_month result - 1)) (drop (given_month result - 1) chances.now)
         (replicate (length row.old) S) row.new }
 {
     let shape = shape_of(Question::Survive, row.len(), income);
-    fill(row, model::SCALE);
-    let mut month = chances.len();
-    'months: while 0 < month {
-        let top = opening + income * month;
+    row.fill(model::SCALE);
+    let mut given_up = None;
+    'months: for month in (0..chances.len()).rev() {
+        let top = opening + income * (month + 1);
         let last = top - income;
         month_back(
             row,
@@ -47,19 +47,20 @@ fn lower_back(
             severity,
             sizes,
             dense,
-            chances[month - 1],
+            chances[month],
             Rounding::Down,
         );
-        let mut place = 0;
-        while row[place] < target {
+        for place in 0..last + 1 {
+            if target <= row[place] {
+                break;
+            }
             if place == last {
+                given_up = Some(month);
                 break 'months;
             }
-            place += 1;
         }
-        month -= 1;
     }
-    month
+    given_up
 }
 
 // The least level whose value reaches the target, where some level's does.
@@ -69,17 +70,15 @@ fn least_level(row: &[u32], top: usize, target: u32) -> usize
     ensures found { result ≡ least (top + 1) (λ s. leb target (from_top top row.now s)) }
     ensures inside { result ≤ top }
 {
-    let mut level = 0;
-    while level < top {
+    for level in 0..top {
         if target <= value_at(row, top, level) {
             return level;
         }
-        level += 1;
     }
-    level
+    top
 }
 
-// The least opening and its lower bound; one above the largest where none reaches the target.
+// The least opening that reaches the target, and its lower bound.
 #[derive(Clone, Copy)]
 pub struct Found {
     pub opening: usize,
@@ -100,7 +99,7 @@ fn found_in(row: &[u32], opening: usize, target: u32) -> Found
     }
 }
 
-// The least opening whose lower bound reaches the target, and that bound.
+// The least opening whose lower bound reaches the target, and that bound, if any does.
 pub fn least_lower(
     row: &mut [u32],
     opening: usize,
@@ -110,25 +109,23 @@ pub fn least_lower(
     sizes: &[usize],
     dense: usize,
     target: u32,
-) -> Found
+) -> Option<Found>
     requires walk { Walk (length row.old) income opening chances.now severity.now sizes.now dense }
     requires target_nonzero { (0 < target) × (target ≤ S) }
-    ensures found { result ≡ least_found income severity.now opening chances.now target }
+    ensures found { found_of opening result ≡ least_found income severity.now opening chances.now target }
+    ensures inside { IfSome result (λ f. f.opening ≤ opening) }
     ensures cleared { row.new ≡ replicate (length row.old) 0 }
 {
-    let month = lower_back(
+    let given_up = lower_back(
         row, opening, income, chances, severity, sizes, dense, target,
     );
-    if 0 < month {
-        fill(row, 0);
-        return Found {
-            opening: opening + 1,
-            lower: 0,
-        };
+    if given_up.is_some() {
+        row.fill(0);
+        return None;
     }
     let found = found_in(row, opening, target);
-    fill(row, 0);
-    found
+    row.fill(0);
+    Some(found)
 }
 
 // The upper bound at an opening.
@@ -146,7 +143,7 @@ pub fn upper_at(
     ensures cleared { row.new ≡ replicate (length row.old) 0 }
 {
     let shape = shape_of(Question::Survive, row.len(), income);
-    fill(row, model::SCALE);
+    row.fill(model::SCALE);
     all_months_back(
         row,
         shape,
@@ -158,6 +155,6 @@ pub fn upper_at(
         Rounding::Up,
     );
     let upper = value_at(row, opening, opening);
-    fill(row, 0);
+    row.fill(0);
     upper
 }

@@ -26,20 +26,6 @@ record_of bytes =
       length = word_at bytes 64;
     }
 
--- the record that stands for the end of the input
-unfoldable pub ended : Record → Record
-ended r =
-    record {
-      kind = 255;
-      head = r.head;
-      number = r.number;
-      target = r.target;
-      room = r.room;
-      fill = r.fill;
-      fill_byte = r.fill_byte;
-      length = r.length;
-    }
-
 -- the row of so many numbers that bytes hold
 unfoldable pub row_in : ℕ → List ℕ → List ℕ
 row_in count bytes = tabulate count (λ i. number_at bytes (4 * i))

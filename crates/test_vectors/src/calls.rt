@@ -66,9 +66,9 @@ fn ask(head: Head, question: Question, row: &[u32], workspace: &mut [u32]) {
 // The plain engine is lent nothing.
 fn plain(head: Head, question: Question, row: &[u32]) {
     let answer = plain_engine::ask(Ask { head, question }, row);
-    text::first(answer.refusal as u64);
-    text::next(answer.lower as u64);
-    text::next(answer.upper as u64);
+    text::first(u64::from(answer.refusal));
+    text::next(u64::from(answer.lower));
+    text::next(u64::from(answer.upper));
     text::end();
 }
 
@@ -79,19 +79,19 @@ fn fails(head: Head, month: usize, row: &[u32], workspace: &mut [u32]) {
 
 fn least(head: Head, target: u32, row: &[u32], workspace: &mut [u32]) {
     let answer = opening_search::least(head, row, target, workspace);
-    text::first(answer.refusal as u64);
+    text::first(u64::from(answer.refusal));
     text::next(answer.opening as u64);
-    text::next(answer.lower as u64);
-    text::next(answer.upper as u64);
+    text::next(u64::from(answer.lower));
+    text::next(u64::from(answer.upper));
     text::memory(workspace);
     text::end();
 }
 
 // The line of a call that has two bounds.
 fn bounds(answer: Answer, workspace: &[u32]) {
-    text::first(answer.refusal as u64);
-    text::next(answer.lower as u64);
-    text::next(answer.upper as u64);
+    text::first(u64::from(answer.refusal));
+    text::next(u64::from(answer.lower));
+    text::next(u64::from(answer.upper));
     text::memory(workspace);
     text::end();
 }
@@ -101,7 +101,7 @@ fn count(head: Head, row: &[u32]) {
     let counts = answer.row;
     let lower = counts.lower;
     let upper = counts.upper;
-    text::first(answer.refusal as u64);
+    text::first(u64::from(answer.refusal));
     text::count_row(&lower, &upper);
     text::end();
 }

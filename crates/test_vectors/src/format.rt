@@ -15,7 +15,7 @@ pub fn write(record: Record, row: &[u32]) {
 
 fn write_into(head: Head, row: &[u32], bytes: &mut [u8]) {
     let answer = codec::write(head, row, bytes);
-    text::first(answer.refusal as u64);
+    text::first(u64::from(answer.refusal));
     text::next(answer.length as u64);
     text::bytes(bytes);
     text::end();
@@ -43,7 +43,7 @@ fn read_from(record: Record, bytes: &mut [u8]) {
 fn read_into(bytes: &[u8], row: &mut [u32]) {
     let answer = codec::read(bytes, row);
     let head = answer.head;
-    text::first(answer.refusal as u64);
+    text::first(u64::from(answer.refusal));
     text::next(head.months as u64);
     text::next(head.opening as u64);
     text::next(head.sizes as u64);

@@ -25,18 +25,17 @@ fn main() {
     play(&mut row);
 }
 
-// Each record in turn. A proved loop has to end, and nothing says that the input does, so the turns are counted down.
+// Each record in turn, up to one of no kind. A proved loop has to end, and nothing says that the input does, so the turns are counted.
 fn play(row: &mut [u32]) {
     let mut used = 0;
-    let mut turns = u64::MAX;
-    while turns > 0 {
-        let next = record::next();
-        let kind = next.kind;
-        if kind > record::LAST {
+    for _ in 0..u64::MAX {
+        let Some(next) = record::next() else {
+            return;
+        };
+        if next.kind > record::LAST {
             return;
         }
         used = step(next, row, used);
-        turns -= 1;
     }
 }
 

@@ -24,7 +24,7 @@ fn bounds(fill: u32) -> [u32; space::BOUNDS]
 
 fn call(head: Head, row: &[u32], workspace: &mut [u32], bounds: &mut [u32]) {
     let refusal = all_openings(head, row, workspace, bounds);
-    text::first(refusal as u64);
+    text::first(u64::from(refusal));
     text::memory(bounds);
     text::memory(workspace);
     text::end();

@@ -1,16 +1,14 @@
 // The records of the input: nine words, then a row or a plan's bytes where the kind asks for them.
 ghost use Rattle.std.specs.Prelude.{◌≡◌, ◌+◌, ◌*◌, ◌≤◌, length, replicate};
 ghost use Rattle.test_vectors.specs.Rooms.{row_capacity, byte_capacity, row_used};
-ghost use Rattle.test_vectors.specs.Records.{word_at, number_at, record_of, ended, row_in};
+ghost use Rattle.test_vectors.specs.Records.{word_at, number_at, record_of, row_in};
 
 use crate::space;
 use model::Head;
 use numbers::big_endian;
 
-// The last kind; `next` gives a larger one at the end of the input.
+// The last kind.
 pub const LAST: u8 = 15;
-
-const END: u8 = 255;
 
 #[derive(Clone, Copy)]
 pub struct Record {
@@ -24,18 +22,13 @@ pub struct Record {
     pub length: usize,
 }
 
-pub fn next() -> Record {
+// The next record, none at the end of the input.
+pub fn next() -> Option<Record> {
     let mut words = [0u8; 72];
-    let got = io::read_full(crate::STDIN_FILENO, &mut words);
-    let record = decode(&words);
-    if got == 72 { record } else { ended(record) }
-}
-
-fn ended(mut last: Record) -> Record
-    ensures { result ≡ ended last }
-{
-    last.kind = END;
-    last
+    if io::read_full(crate::STDIN_FILENO, &mut words) < 72 {
+        return None;
+    }
+    Some(decode(&words))
 }
 
 fn decode(words: &[u8; 72]) -> Record
@@ -88,14 +81,12 @@ pub fn bytes(fill: u8) -> [u8; space::BYTES]
 }
 
 // Reads a row of `count` numbers, and answers its length, or 0 where there is no room for it.
+#[tactic(auto, unfolding(crate::specs::Rooms::row_used))]
 pub fn read_row(count: usize, row: &mut [u32]) -> usize
     ensures used { result ≡ row_used count (length row.old) }
     ensures within { result ≤ length row.new }
 {
-    if count > space::ROW {
-        return 0;
-    }
-    if count > row.len() {
+    if count > space::ROW || count > row.len() {
         return 0;
     }
     let mut bytes = bytes(0);
@@ -115,9 +106,7 @@ fn unpack(bytes: &[u8], row: &mut [u32])
     requires { 4 * length row.old ≤ length bytes.now }
     ensures { row.new ≡ row_in (length row.old) bytes.now }
 {
-    let mut i = 0;
-    while i < row.len() {
-        row[i] = number(bytes, 4 * i);
-        i += 1;
+    for (i, place) in row.iter_mut().enumerate() {
+        *place = number(bytes, 4 * i);
     }
 }

@@ -7,7 +7,6 @@ use crate::text;
 use claims::sizes::{first_within, list_sizes};
 use claims::sum::claim_sum;
 use model::Head;
-use numbers::lesser;
 use plan::plan_refusal;
 
 pub fn claims(head: Head, count: usize, row: &[u32]) {
@@ -24,7 +23,7 @@ fn add(head: Head, count: usize, row: &[u32])
 {
     let months = head.months;
     let end = months + head.sizes;
-    let values = lesser(count, months);
+    let values = count.min(months);
     list(&row[months..end], &row[..values]);
 }
 
@@ -41,14 +40,14 @@ fn sum(severity: &[u32], sizes: &[usize], dense: usize, after: &[u32])
     requires plan_terms { PlanTerms severity.now after.now }
     requires listing { Listing severity.now sizes.now dense }
 {
-    let most = lesser(after.len(), severity.len());
+    let most = after.len().min(severity.len());
     let first = first_within(sizes, 0, most);
     let claims = claim_sum(severity, &sizes[first..], dense, after);
     line(0, claims.quotient, claims.remainder, claims.products);
 }
 
 fn line(refusal: u32, quotient: u64, remainder: u64, products: usize) {
-    text::first(refusal as u64);
+    text::first(u64::from(refusal));
     text::next(quotient);
     text::next(remainder);
     text::next(products as u64);

@@ -1,7 +1,6 @@
 // The parts of a line of the output, with one space between.
 use checksums::checksum;
 use model::limits::PLACES;
-use numbers::{index, wide};
 
 pub fn first(x: u64) {
     io::print_decimal(crate::STDOUT_FILENO, x);
@@ -18,21 +17,17 @@ pub fn end() {
 
 // Both bounds of each place.
 pub fn count_row(lower: &[u32; PLACES], upper: &[u32; PLACES]) {
-    let mut k = 0;
-    while k < PLACES {
-        next(wide(lower[k]));
-        next(wide(upper[k]));
-        k += 1;
+    for (low, high) in lower.iter().zip(upper) {
+        next(u64::from(*low));
+        next(u64::from(*high));
     }
 }
 
 // Lent bytes, in hexadecimal.
 pub fn bytes(memory: &[u8]) {
-    let mut i = 0;
-    while i < memory.len() {
+    for byte in memory {
         io::write_all(crate::STDOUT_FILENO, b" ");
-        io::print_hex(crate::STDOUT_FILENO, index(memory[i]) as u64, 2);
-        i += 1;
+        io::print_hex(crate::STDOUT_FILENO, u64::from(*byte), 2);
     }
 }
 

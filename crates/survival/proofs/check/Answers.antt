@@ -6,7 +6,7 @@ use Rattle.model.specs.Refusal.{Accepted, survival_workspace}
 use Rattle.model.proofs.Facts.{HeadFacts, head_facts, accepted_head}
 use Rattle.survival.proofs.Theorems.{needed_is, plan_refused, workspace_short, bounds_short, unrefused}
 use Rattle.survival.proofs.check.Goals as goal
-use Rattle.survival.proofs.check.Goals.{After-row_levels, Else-of_plan-ne0}
+use Rattle.survival.proofs.check.Goals.{After-row_levels, Else-of_plan-ne0, then-room-row_levels-via-then-room-row_levels, then-room-row_levels-via-else-room-row_levels+then-places-opening}
 
 pub returns-then-of_plan-ne0 : goal.returns-then-of_plan-ne0
 returns-then-of_plan-ne0 c =
@@ -30,25 +30,26 @@ needed c = needed_is c.args.head c.row_levels.result c.row_levels.ensures
 pub overflow_mul-row_levels : goal.overflow_mul-row_levels
 overflow_mul-row_levels c = omega (arith, c.row_levels.ensures, (fits (goal.at.overflow_mul-row_levels c).Else-of_plan-ne0).span_fits)
 
-pub returns-then-room-row_levels : goal.returns-then-room-row_levels
-returns-then-room-row_levels c =
-    let a = c.args in
-    workspace_short a.head a.row.now a.room a.places (accepted (goal.at.returns-then-room-row_levels c).Else-of_plan-ne0) (omega (arith, needed (goal.at.returns-then-room-row_levels c).After-row_levels, c.if-room-row_levels.true))
-
 pub overflow_add-opening : goal.overflow_add-opening
 overflow_add-opening c = omega (arith, (fits (goal.at.overflow_add-opening c).Else-of_plan-ne0).opening_fits)
 
 pub overflow_mul-opening : goal.overflow_mul-opening
 overflow_mul-opening c = omega (arith, (fits (goal.at.overflow_mul-opening c).Else-of_plan-ne0).opening_fits)
 
-pub returns-then-places-opening : goal.returns-then-places-opening
-returns-then-places-opening c =
+pub returns-then-room-row_levels : goal.returns-then-room-row_levels
+returns-then-room-row_levels c =
     let a = c.args in
-    bounds_short a.head a.row.now a.room a.places (accepted (goal.at.returns-then-places-opening c).Else-of_plan-ne0) (omega (arith, needed (goal.at.returns-then-places-opening c).After-row_levels, c.if-room-row_levels.false)) c.if-places-opening.true
+    let plan = accepted (goal.at.returns-then-room-row_levels c).Else-of_plan-ne0 in
+    let size = needed (goal.at.returns-then-room-row_levels c).After-row_levels in
+    elim c.then-room-row_levels.branch [
+      then-room-row_levels-via-then-room-row_levels w ↦ workspace_short a.head a.row.now a.room a.places plan (omega (arith, size, w.if-room-row_levels.true))
+    | then-room-row_levels-via-else-room-row_levels+then-places-opening w ↦
+        bounds_short a.head a.row.now a.room a.places plan (omega (arith, size, w.if-room-row_levels.false)) w.if-places-opening.true
+    ]
 
-pub returns-else-places-opening : goal.returns-else-places-opening
-returns-else-places-opening c =
+pub returns : goal.returns
+returns c =
     let a = c.args in
     sym
     (unrefused a.head a.row.now a.room a.places
-    (record { accepted = accepted (goal.at.returns-else-places-opening c).Else-of_plan-ne0; enough = omega (arith, needed (goal.at.returns-else-places-opening c).After-row_levels, c.if-room-row_levels.false); wide = c.if-places-opening.false }))
+    (record { accepted = accepted (goal.at.returns c).Else-of_plan-ne0; enough = omega (arith, needed (goal.at.returns c).After-row_levels, c.if-room-row_levels.false); wide = c.if-places-opening.false }))

@@ -14,4 +14,4 @@ pub returns : goal.returns
 unfolding bounds_answer
 returns c =
     let a = c.args in
-    let count = length-take-le a.needed a.workspace.now c.requires in record { answered = refl; cleared = ap (λ front. front ++ drop a.needed a.workspace.now) (c.fill.ensures ∙ ap (λ n. replicate n 0) count) }
+    let count = length-take-le a.needed a.workspace.now c.requires in record { answered = refl; cleared = ap (λ front. front ++ drop a.needed a.workspace.now) (c.fill.ensures.after (λ y e. e) ∙ ap (λ n. replicate n 0) count) }

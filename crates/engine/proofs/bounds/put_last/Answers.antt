@@ -1,5 +1,5 @@
 -- `put_last` meets its contract, by the cases of the last rows.
-use mathlib.Core.Path.{◌≡◌, ap, ◌∙◌}
+use mathlib.Core.Path.{ap, ◌∙◌}
 use Prim.Native.Nat.{◌*◌}
 use lib.ListN.{take, drop}
 use Rattle.model.specs.declared.Rounding.TheVariants.{Down, Up}

@@ -11,7 +11,7 @@ returns-in-Survive c = sym (ap (λ q. left_after ((rule_of q).after_claim c.args
 
 pub returns-in-Both : goal.returns-in-Both
 unfolding rule_of
-returns-in-Both c = c.difference.ensures ∙ one_left c.args.left ∙ sym (ap (λ q. left_after ((rule_of q).after_claim c.args.left)) c.in-Both.is)
+returns-in-Both c = c.saturating_sub.ensures ∙ one_left c.args.left ∙ sym (ap (λ q. left_after ((rule_of q).after_claim c.args.left)) c.in-Both.is)
 
 pub returns-in-High : goal.returns-in-High
 unfolding left_after rule_of

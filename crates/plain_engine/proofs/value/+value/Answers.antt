@@ -1,6 +1,6 @@
 -- The proof of the cycle of calls {value}: a value is that of its month, over the values that it asks for.
 use Prim.Native.Nat.{ℕ, ◌+◌, ◌*◌, ◌-◌, ◌/◌, ◌%◌, ◌<◌, ◌≤◌}
-use mathlib.Core.Path.{◌≡◌, refl, ◌∙◌}
+use mathlib.Core.Path.{◌≡◌, refl, sym, ap, ◌∙◌}
 use native.Mathlib.Nat.{div-add-mod'}
 use native.Mathlib.Omega.{arith}
 use lib.ListN.{length, take, drop}
@@ -9,38 +9,42 @@ use Rattle.model.specs.Sums.{sum}
 use Rattle.model.specs.MonthRule.{claim_sum, claimed_row, values, rule_of}
 use Rattle.model.specs.Limits.{small_income}
 use Rattle.model.proofs.Values.{no_chances}
-use Rattle.plain_engine.proofs.ValueLaws.{followed_within, rows_after, claim_term, followed_sum, term_is, Summing, summing_turn, summing_end, fewer_months, later_terms, row_fits, sum_fits, level_is, value_is}
+use Rattle.plain_engine.proofs.ValueLaws.{Inside, followed_inside, rows_after, claim_term, followed_sum, term_is, summing_turn, fewer_months, later_terms, row_fits, sum_fits, level_is, value_is}
 use Rattle.plain_engine.proofs.value.+value.Goals as goal
-use Rattle.plain_engine.proofs.value.+value.Goals.{After-followed-most, In-loop-x, After-product-sum, After-loop-x}
+use Rattle.plain_engine.proofs.value.+value.Goals.{After-followed-most, In-loop-i, After-product-sum, After-loop-i}
 
--- a size that is followed has a weight, and does not ruin
-inside : (t : ℕ) (c : In-loop-x t) → (0 < c.loop-x.x) × (c.loop-x.x ≤ c.args.level) × (c.loop-x.x ≤ length c.args.severity.now)
-inside t c =
+-- the sizes that are followed have a weight, and do not ruin
+inside : (t : ℕ) (c : After-followed-most t) → Inside c.args.severity.now c.args.level c.followed-most.result
+inside t c = let a = c.args in followed_inside ((rule_of a.question).after_claim a.left) c.min.result a.severity.now a.level c.followed-most.result c.min.ensures c.followed-most.ensures
+
+-- a turn is one of them
+turn : (t : ℕ) (c : In-loop-i t) → c.loop-i.i < c.followed-most.result
+turn t c =
     let a = c.args in
-    let all = followed_within ((rule_of a.question).after_claim a.left) c.lesser.result in
-    (c.loop-x.invariant.some, omega (arith, c.followed-most.ensures, c.lesser.ensures, all), omega (arith, c.followed-most.ensures, c.lesser.ensures, all))
+    let inside = followed_inside ((rule_of a.question).after_claim a.left) c.min.result a.severity.now a.level c.followed-most.result c.min.ensures c.followed-most.ensures in
+    omega (arith, c.loop-i-test.true, inside.all)
 
 -- the product that a turn adds
 added :
-    (t : ℕ) (c : After-product-sum t) →
+    (t : ℕ) (c : After-product-sum t) → c.loop-i.i < c.followed-most.result →
     let a = c.args in
-    (c.loop-x.sum + c.product-sum.result ≤ S * S)
-    × Summing (claim_term a.severity.now (rows_after a.round a.question a.severity.now (take (length a.chances.now - 1) (drop 1 a.chances.now)) c.claims_after-fewer.result) a.level)
-    c.followed-most.result (c.loop-x.sum + c.product-sum.result) (c.loop-x.x + 1)
-added t c =
+    let f = claim_term a.severity.now (rows_after a.round a.question a.severity.now (take (length a.chances.now - 1) (drop 1 a.chances.now)) c.claims_after-fewer.result) a.level in
+    (c.loop-i.sum + c.product-sum.result ≤ S * S) × (c.loop-i.sum + c.product-sum.result ≡ sum (c.loop-i.i + 1) f)
+added t c l =
     let a = c.args in
     let later = take (length a.chances.now - 1) (drop 1 a.chances.now) in
     let fewer = c.claims_after-fewer.result in
+    let most = c.followed-most.result in
+    let i = c.loop-i.i in
     let down = c.level_value in
-    let read = level_is a.round a.question a.severity.now later fewer (a.level + small_income - c.loop-x.x) _ down.result down.ensures c.value-after.ensures in
+    let row = rows_after a.round a.question a.severity.now later fewer in
+    let read = level_is a.round a.question a.severity.now later fewer (a.level - i) _ down.result down.ensures c.value-after.ensures in
     let more =
-    summing_turn (claim_term a.severity.now (rows_after a.round a.question a.severity.now later fewer) a.level) c.followed-most.result c.loop-x.sum c.loop-x.x
-    c.product-sum.result c.loop-x-test.true
-    (term_is a.severity.now (rows_after a.round a.question a.severity.now later fewer) a.level c.loop-x.x down.result c.product-sum.result c.loop-x.invariant.some c.product-sum.ensures read)
-    c.loop-x.invariant in
+    summing_turn (claim_term a.severity.now row a.level) most c.loop-i.sum i c.product-sum.result l
+    (term_is a.severity.now row a.level most i down.result c.product-sum.result l c.product-sum.ensures read) c.loop-i.invariant in
     let whole =
     followed_sum a.severity.now (rows_after a.round a.question a.severity.now later) ((rule_of a.question).after_claim a.left) a.level
-    c.followed-most.result c.lesser.result fewer c.lesser.ensures c.followed-most.ensures c.claims_after-fewer.ensures in
+    most c.min.result fewer c.min.ensures c.followed-most.ensures c.claims_after-fewer.ensures in
     (omega (arith, more.0, whole, sum_fits a.round a.question a.severity.now a.chances.now a.level c.requires a.left), more.1)
 
 -- after the loop: the quiet value, and the whole sum
@@ -54,15 +58,18 @@ quiet_is t c =
     c.value.result c.level_value-quiet.result c.level_value-quiet.ensures c.value.ensures
 
 sum_is :
-    (t : ℕ) (c : After-loop-x t) →
+    (t : ℕ) (c : After-loop-i t) →
     let a = c.args in
-    c.loop-x.sum
+    c.loop-i.sum
     ≡ claim_sum a.severity.now (claimed_row (rows_after a.round a.question a.severity.now (take (length a.chances.now - 1) (drop 1 a.chances.now))) ((rule_of a.question).after_claim a.left)) (a.level + small_income)
 sum_is t c =
     let a = c.args in
-    summing_end _ _ _ _ c.loop-x-test.false c.loop-x.invariant
+    let inside = followed_inside ((rule_of a.question).after_claim a.left) c.min.result a.severity.now a.level c.followed-most.result c.min.ensures c.followed-most.ensures in
+    let all : c.loop-i.i ≡ c.followed-most.result = omega (arith, c.loop-i-test.false, c.loop-i.auto.i-end, inside.all) in
+    c.loop-i.invariant
+    ∙ ap (λ (n : ℕ). sum n (claim_term a.severity.now (rows_after a.round a.question a.severity.now (take (length a.chances.now - 1) (drop 1 a.chances.now)) c.claims_after-fewer.result) a.level)) all
     ∙ followed_sum a.severity.now (rows_after a.round a.question a.severity.now (take (length a.chances.now - 1) (drop 1 a.chances.now))) ((rule_of a.question).after_claim a.left) a.level
-    c.followed-most.result c.lesser.result c.claims_after-fewer.result c.lesser.ensures c.followed-most.ensures c.claims_after-fewer.ensures
+    c.followed-most.result c.min.result c.claims_after-fewer.result c.min.ensures c.followed-most.ensures c.claims_after-fewer.ensures
 
 pub returns-then-chances-lt1 : goal.returns-then-chances-lt1
 unfolding values
@@ -76,12 +83,15 @@ value-requires t c =
       later_terms a.round a.question a.severity.now a.chances.now a.level c.requires c.if-chances-lt1.false _ (omega arith),
     )
 
-pub loop-x-init : goal.loop-x-init
+pub slice_bounds-weight-items-end : goal.slice_bounds-weight-items-end
+slice_bounds-weight-items-end t c = sym (inside t (goal.at.slice_bounds-weight-items-end t c).After-followed-most).all
+
+pub loop-i-init : goal.loop-i-init
 unfolding sum
-loop-x-init t c = record { some = omega arith; within = omega arith; is = refl }
+loop-i-init t c = refl
 
 pub overflow_sub-down : goal.overflow_sub-down
-overflow_sub-down t c = omega (arith, inside t (goal.at.overflow_sub-down t c).In-loop-x)
+overflow_sub-down t c = omega (arith, turn t (goal.at.overflow_sub-down t c).In-loop-i, (inside t (goal.at.overflow_sub-down t c).After-followed-most).level)
 
 pub value-after-requires : goal.value-after-requires
 value-after-requires t c =
@@ -90,29 +100,20 @@ value-after-requires t c =
       later_terms a.round a.question a.severity.now a.chances.now a.level c.requires c.if-chances-lt1.false _ (omega arith),
     )
 
-pub offset_bounds-severity-x : goal.offset_bounds-severity-x
-offset_bounds-severity-x t c = omega (arith, inside t (goal.at.offset_bounds-severity-x t c).In-loop-x)
-
-pub bounds-severity-x : goal.bounds-severity-x
-bounds-severity-x t c = omega (arith, inside t (goal.at.bounds-severity-x t c).In-loop-x)
-
 pub overflow_add-sum : goal.overflow_add-sum
 unfolding S
-overflow_add-sum t c = omega (arith, (added t (goal.at.overflow_add-sum t c).After-product-sum).0)
+overflow_add-sum t c = omega (arith, (added t (goal.at.overflow_add-sum t c).After-product-sum (turn t (goal.at.overflow_add-sum t c).In-loop-i)).0)
 
-pub overflow_add-x : goal.overflow_add-x
-overflow_add-x t c = omega (arith, inside t (goal.at.overflow_add-x t c).In-loop-x, c.requires.levels_fit)
-
-pub loop-x-preserved : goal.loop-x-preserved
-loop-x-preserved t c = (added t (goal.at.loop-x-preserved t c).After-product-sum).1
+pub loop-i-preserved : goal.loop-i-preserved
+loop-i-preserved t c = (added t (goal.at.loop-i-preserved t c).After-product-sum (turn t (goal.at.loop-i-preserved t c).In-loop-i)).1
 
 pub month_value-requires : goal.month_value-requires
 unfolding S
 month_value-requires t c =
     let a = c.args in
-    let n = c.loop-x.sum in
+    let n = c.loop-i.sum in
     let left : n % S < S = omega arith in
-    let whole_fits : n ≤ S * S = rw (sum_is t (goal.at.month_value-requires t c).After-loop-x) (sum_fits a.round a.question a.severity.now a.chances.now a.level c.requires a.left) in
+    let whole_fits : n ≤ S * S = rw (sum_is t (goal.at.month_value-requires t c).After-loop-i) (sum_fits a.round a.question a.severity.now a.chances.now a.level c.requires a.left) in
     let joined : n / S * S + n % S ≤ S * S = rw (div-add-mod' n S) whole_fits in (
       c.requires.chances_fit 0,
       rw (quiet_is t (goal.at.month_value-requires t c).After-followed-most) (row_fits a.round a.question a.severity.now a.chances.now a.level c.requires a.left (a.level + small_income)),
@@ -125,4 +126,4 @@ unfolding S
 returns t c =
     let a = c.args in
     value_is a.round a.question a.severity.now a.chances.now a.left a.level _ _ c.month_value.result c.if-chances-lt1.false
-    (quiet_is t (goal.at.returns t c).After-followed-most) (sum_is t (goal.at.returns t c).After-loop-x) c.month_value.ensures
+    (quiet_is t (goal.at.returns t c).After-followed-most) (sum_is t (goal.at.returns t c).After-loop-i) c.month_value.ensures

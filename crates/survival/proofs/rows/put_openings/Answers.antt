@@ -78,5 +78,5 @@ returns c =
           ∙ pairs_agree (a.opening + 1) _ _ _ _
           (rw (one (goal.at.returns c).After-shape_of-shape).size at (half_is (goal.at.returns c).After-halves_back Down _ _ (last.ensures.lower top inside) c.halves_back.ensures.lower))
           (rw (one (goal.at.returns c).After-shape_of-shape).size at (half_is (goal.at.returns c).After-halves_back Up _ _ (last.ensures.upper top inside) c.halves_back.ensures.upper));
-      cleared = c.fill.ensures ∙ ap (λ n. replicate n 0) (c.halves_back.auto.halves ∙ last.auto.halves);
+      cleared = c.fill.ensures.after (λ y e. e) ∙ ap (λ n. replicate n 0) (c.halves_back.auto.halves ∙ last.auto.halves);
     }

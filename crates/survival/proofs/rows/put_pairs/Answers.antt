@@ -11,7 +11,7 @@ use Rattle.survival.proofs.rows.put_pairs.Goals as goal
 use Rattle.survival.proofs.rows.put_pairs.Goals.{After-value_at-lower, After-value_at-upper}
 
 pub loop-level-init : goal.loop-level-init
-loop-level-init c = (filling_none _ _, omega arith)
+loop-level-init c = filling_none _ _
 
 -- both halves as they are lent
 second_half : (c : After-value_at-lower) → let a = c.args in mid_of a.half (length a.halves.now - a.half) a.halves.now ≡ drop a.half a.halves.now
@@ -40,7 +40,7 @@ value_at-upper-requires c =
 
 -- room for both numbers
 room : (c : After-value_at-upper) → 2 * c.loop-level.level + 1 < length c.loop-level.pairs
-room c = omega (arith, c.loop-level.invariant.0.same, c.requires.pairs_len, c.loop-level-test.true)
+room c = omega (arith, c.loop-level.invariant.same, c.requires.pairs_len, c.loop-level-test.true)
 
 pub bounds-pairs-place : goal.bounds-pairs-place
 bounds-pairs-place c = omega (arith, room (goal.at.bounds-pairs-place c).After-value_at-upper)
@@ -48,25 +48,20 @@ bounds-pairs-place c = omega (arith, room (goal.at.bounds-pairs-place c).After-v
 pub bounds-pairs-place-in-loop-level : goal.bounds-pairs-place-in-loop-level
 bounds-pairs-place-in-loop-level c = simp length-set (room (goal.at.bounds-pairs-place-in-loop-level c).After-value_at-upper)
 
-pub loop-level-smaller : goal.loop-level-smaller
-loop-level-smaller c = omega arith
-
 pub loop-level-preserved : goal.loop-level-preserved
 loop-level-preserved c =
     let a = c.args in
     let low = from_top a.top (take a.half a.halves.now) in
-    let high = from_top a.top (drop a.half a.halves.now) in (
-      pair_more low high a.pairs.now c.loop-level.pairs c.loop-level.level c.loop-level.invariant.0 c.value_at-lower.result c.value_at-upper.result (room (goal.at.loop-level-preserved c).After-value_at-upper) c.value_at-lower.ensures
-          (c.value_at-upper.ensures ∙ ap (λ l. get_or l (a.top - c.loop-level.level) 0) (second_half (goal.at.loop-level-preserved c).After-value_at-lower)),
-      omega arith,
-    )
+    let high = from_top a.top (drop a.half a.halves.now) in
+    pair_more low high a.pairs.now c.loop-level.pairs c.loop-level.level c.loop-level.invariant c.value_at-lower.result c.value_at-upper.result (room (goal.at.loop-level-preserved c).After-value_at-upper) c.value_at-lower.ensures
+          (c.value_at-upper.ensures ∙ ap (λ l. get_or l (a.top - c.loop-level.level) 0) (second_half (goal.at.loop-level-preserved c).After-value_at-lower))
 
 pub shape_of-pairs : goal.shape_of-pairs
-shape_of-pairs c = c.loop-level.invariant.0.same
+shape_of-pairs c = c.loop-level.invariant.same
 
 pub returns : goal.returns
 returns c =
     let a = c.args in
     let low = from_top a.top (take a.half a.halves.now) in
     let high = from_top a.top (drop a.half a.halves.now) in
-    pairs_done low high a.pairs.now c.loop-level.pairs c.loop-level.level c.loop-level.invariant.0 (a.top + 1) c.requires.pairs_len (omega (arith, c.loop-level-test.false))
+    pairs_done low high a.pairs.now c.loop-level.pairs c.loop-level.level c.loop-level.invariant (a.top + 1) c.requires.pairs_len (omega (arith, c.loop-level-test.false))

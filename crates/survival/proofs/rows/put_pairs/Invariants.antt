@@ -7,7 +7,4 @@ use Rattle.survival.proofs.PairLaws.{paired}
 use Rattle.survival.proofs.rows.put_pairs.Given as goal
 
 abbrev pub invariant-loop-level : goal.invariant-loop-level
-invariant-loop-level l = Filling (paired (from_top l.top (take l.half l.halves)) (from_top l.top (drop l.half l.halves))) l.initial.pairs l.pairs (2 * l.level) × (l.level ≤ l.top + 1)
-
-abbrev pub decreases-loop-level : goal.decreases-loop-level
-decreases-loop-level l = l.top + 1 - l.level
+invariant-loop-level l = Filling (paired (from_top l.top (take l.half l.halves)) (from_top l.top (drop l.half l.halves))) l.initial.pairs l.pairs (2 * l.level)

@@ -20,26 +20,26 @@ shape_of-shape-requires c = refl
 walk : (c : Start) → Walk (length c.args.row.now) c.args.income c.args.opening c.args.chances.now c.args.severity.now c.args.sizes.now c.args.dense
 walk c = c.requires
 
-last_row : (c : After-fill) → c.fill.new.part ≡ replicate (length c.args.row.now) S
+last_row : (c : After-fill) → c.fill.new.self ≡ replicate (length c.args.row.now) S
 unfolding S
-last_row c = c.fill.ensures
+last_row c = c.fill.ensures.after (λ y e. e)
 
 pub all_months_back-requires : goal.all_months_back-requires
 all_months_back-requires c =
     let shape = c.shape_of-shape in
-    let width = length c.args.row.now in record { rows_in = rows_in shape.result width c.args.income c.fill.new.part shape.ensures (walk (goal.at.all_months_back-requires c).Start).earns c.fill.auto.part (rw (last_row (goal.at.all_months_back-requires c).After-fill) (parts_replicate width S (le_refl S))); chances_bound = width_of shape.result width c.args.income c.args.opening _ shape.ensures (walk (goal.at.all_months_back-requires c).Start).inside; plan_terms = (walk (goal.at.all_months_back-requires c).Start).terms; listing = (walk (goal.at.all_months_back-requires c).Start).listing }
+    let width = length c.args.row.now in record { rows_in = rows_in shape.result width c.args.income c.fill.new.self shape.ensures (walk (goal.at.all_months_back-requires c).Start).earns c.fill.auto.self (rw (last_row (goal.at.all_months_back-requires c).After-fill) (parts_replicate width S (le_refl S))); chances_bound = width_of shape.result width c.args.income c.args.opening _ shape.ensures (walk (goal.at.all_months_back-requires c).Start).inside; plan_terms = (walk (goal.at.all_months_back-requires c).Start).terms; listing = (walk (goal.at.all_months_back-requires c).Start).listing }
 
 pub value_at-upper-requires : goal.value_at-upper-requires
 value_at-upper-requires c =
     let a = c.args in
-    (le_refl a.opening, omega (arith, (walk (goal.at.value_at-upper-requires c).Start).inside, level_from a.income a.opening a.opening (length a.chances.now) (le_refl a.opening), c.all_months_back.auto.rows, c.fill.auto.part))
+    (le_refl a.opening, omega (arith, (walk (goal.at.value_at-upper-requires c).Start).inside, level_from a.income a.opening a.opening (length a.chances.now) (le_refl a.opening), c.all_months_back.auto.rows, c.fill.auto.self))
 
 pub returns : goal.returns
 returns c =
     let a = c.args in
     let width = length a.row.now in record {
       upper = c.value_at-upper.ensures
-          ∙ back_of Up a.income a.severity.now a.chances.now width a.opening c.shape_of-shape.result c.fill.new.part c.all_months_back.new.rows
+          ∙ back_of Up a.income a.severity.now a.chances.now width a.opening c.shape_of-shape.result c.fill.new.self c.all_months_back.new.rows
           c.shape_of-shape.ensures (last_row (goal.at.returns c).After-fill) (walk (goal.at.returns c).Start).inside c.all_months_back.ensures.values a.opening (le_refl a.opening);
-      cleared = c.fill-2.ensures ∙ ap (λ n. replicate n 0) (c.all_months_back.auto.rows ∙ c.fill.auto.part);
+      cleared = c.fill-2.ensures.after (λ y e. e) ∙ ap (λ n. replicate n 0) (c.all_months_back.auto.rows ∙ c.fill.auto.self);
     }

@@ -24,8 +24,8 @@ slice_bounds-list-end c = omega (arith, (known (goal.at.slice_bounds-list-end c)
 
 pub slice_bounds-list-end-2 : goal.slice_bounds-list-end-2
 slice_bounds-list-end-2 c =
-    sym (length-take-le c.lesser-values.result c.args.row.now (omega (arith, c.lesser-values.ensures, (known (goal.at.slice_bounds-list-end-2 c).Start).row_is)))
+    sym (length-take-le c.min-values.result c.args.row.now (omega (arith, c.min-values.ensures, (known (goal.at.slice_bounds-list-end-2 c).Start).row_is)))
 
 pub list-requires : goal.list-requires
 list-requires c =
-    terms_lent c.args.head c.args.row.now (known (goal.at.list-requires c).Start) c.lesser-values.result
+    terms_lent c.args.head c.args.row.now (known (goal.at.list-requires c).Start) c.min-values.result

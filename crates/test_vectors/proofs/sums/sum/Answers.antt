@@ -4,8 +4,8 @@ use native.Mathlib.Omega.{arith}
 use Rattle.claims.proofs.ListingLaws.{listed_from_start, listed_from_turn, listed_part}
 use Rattle.test_vectors.proofs.sums.sum.Goals as goal
 
-pub lesser-most-requires : goal.lesser-most-requires
-lesser-most-requires c = tt
+pub min-most-requires : goal.min-most-requires
+min-most-requires c = tt
 
 pub first_within-first-requires : goal.first_within-first-requires
 first_within-first-requires c = omega arith
@@ -24,7 +24,7 @@ slice_bounds-claim_sum-end c = omega (arith, c.first_within-first.ensures.inside
 
 pub claim_sum-claims-requires : goal.claim_sum-claims-requires
 claim_sum-claims-requires c =
-    let most = c.lesser-most in
+    let most = c.min-most in
     let a = c.args in
     let listing = c.requires.listing in
     let range =
