@@ -2,7 +2,6 @@
 use Prim.{Unit, tt}
 use Prim.Native.Nat.{ℕ, suc, ◌+◌, ◌*◌, ◌-◌, ◌^◌, ◌≤◌, zero-le}
 use mathlib.Core.Path.{◌≡◌, refl, sym, ap, ◌∙◌}
-use mathlib.Core.Bool.{not}
 use mathlib.Core.List.{[], ◌∷◌, map}
 use native.Mathlib.Omega.{arith}
 use native.Mathlib.Nat.{le_refl, mul_assoc, mul_comm, mul-add, add-mul, zero-mul, mul-zero, add-zero, mul-le-mul_left, le_of_mul-le-mul_right}

@@ -59,9 +59,8 @@ fn weighted_sums(mixture: Mixture, question: Question, row: &[u32], workspace: &
     let count = mixture.count;
     let mut lower: u64 = 0;
     let mut upper: u64 = 0;
-    let mut i = 0;
     let mut start = 0;
-    while i < count {
+    for i in 0..count {
         let head = heads[i];
         let end = start + row_length(head);
         let bounds = engine::ask(Ask { head, question }, &row[start..end], workspace);
@@ -69,7 +68,6 @@ fn weighted_sums(mixture: Mixture, question: Question, row: &[u32], workspace: &
         lower += product(weight, bounds.lower);
         upper += product(weight, bounds.upper);
         start = end;
-        i += 1;
     }
     Sums { lower, upper }
 }

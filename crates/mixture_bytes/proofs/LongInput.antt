@@ -2,7 +2,7 @@
 -- number: a program need not read on.
 use Prim.Native.Nat.{ℕ, zero, suc, ◌+◌, ◌*◌, ◌-◌, ◌<◌, ◌≤◌}
 use mathlib.Core.Path.{◌≡◌, refl, sym, ap, ap₂, ◌∙◌}
-use mathlib.Core.Bool.{Bool, true, false, not, cond}
+use mathlib.Core.Bool.{Bool, true, false, cond}
 use mathlib.Core.List.{List, [], ◌∷◌}
 use native.Mathlib.Nat.{suc-mul, mul-le-mul}
 use native.Mathlib.Omega.{arith}
@@ -12,7 +12,6 @@ use lib.Seq.{take_all, take-take, take-add, drop_at, length-take-le, get_or-take
 use borrow.Author.Tests.{ltb-true, ltb-false, eqb-false, ne_eqb, le-ltb}
 use Rattle.model.specs.declared.Head.{Head}
 use Rattle.model.specs.Limits.{max_plans, row_room}
-use Rattle.model.specs.Sums.{all}
 use Rattle.model.specs.Format.{head_bytes, head_of, byte_length}
 use Rattle.model.specs.Refusal.{first, head_checks, HeadAccepted, read_refusal}
 use Rattle.model.specs.Figures.{longest_plan}

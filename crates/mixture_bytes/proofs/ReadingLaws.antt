@@ -5,7 +5,7 @@ use mathlib.Core.Bool.{Bool}
 use mathlib.Core.List.{List, [], ◌∷◌, ◌++◌, append_assoc, append-nil, map}
 use native.Mathlib.Numerals.{add-one}
 use native.Mathlib.Omega.{arith}
-use native.Mathlib.Nat.{zero-add, add_assoc, add-zero, mul-le-mul_right}
+use native.Mathlib.Nat.{add_assoc, add-zero, mul-le-mul_right}
 use borrow.Rule.Slice.PartMut.{mid_of, put_mid, same_len_mid, put_same}
 use lib.Dec.{eqb}
 use lib.ListN.{length, take, drop, set, length-set, length-append, length-drop, take-append-drop}
@@ -60,21 +60,6 @@ parts_many zero bs = refl
 parts_many (suc n) bs = ap suc (parts_many n _)
 
 module _ (bytes : List ℕ) (count : ℕ) (row₀ : List ℕ) where
-  pub reading_none : (heads : List Head) → length heads ≡ max_plans → Reading bytes count row₀ row₀ heads 0 0 0
-  reading_none heads long =
-      let all : count - 0 ≡ count = omega arith in
-      record {
-        turns = omega arith;
-        inside = omega arith;
-        few = omega arith;
-        long = refl;
-        heads_long = long;
-        number = rw all refl;
-        memory = rw all refl;
-        heads_are = rw all refl;
-        used_is = rw all (zero-add _);
-      }
-
   module _
       (few : count ≤ max_plans) (room : length row₀ ≡ rows_room) (row : List ℕ) (heads : List Head) (i start used : ℕ)
       (so_far : Reading bytes count row₀ row heads i start used)
@@ -106,7 +91,7 @@ module _ (bytes : List ℕ) (count : ℕ) (row₀ : List ℕ) where
         later = plan_parts (count - (i + 1)) (drop (byte_length (head_of rest)) rest)
 
         -- room for every plan's row
-        pub reading_room : used + row_room ≤ length row
+        reading_room : used + row_room ≤ length row
         reading_room = omega (arith, so_far.few, so_far.long, room, mul-le-mul_right row_room l, mul-le-mul_right row_room few)
 
         from : plan_parts (count - i) rest ≡ part ∷ later
@@ -119,7 +104,7 @@ module _ (bytes : List ℕ) (count : ℕ) (row₀ : List ℕ) where
         abbrev lent : List ℕ
         lent = mid_of used (used + row_room - used) row
 
-        pub reading_lent : length lent ≡ row_room
+        reading_lent : length lent ≡ row_room
         reading_lent =
             let k : used + row_room - used ≡ row_room = omega arith in
             rw k (length-take-le row_room (drop used row) (simp length-drop (omega (arith, reading_room))))

@@ -1,6 +1,6 @@
 -- The weights, read one by one.
 use Prim.Native.Nat.{ℕ, suc, ◌+◌, ◌*◌, ◌-◌, ◌<◌, ◌≤◌}
-use mathlib.Core.Path.{◌≡◌, refl, sym, ap, ◌∙◌}
+use mathlib.Core.Path.{◌≡◌, sym, ap, ◌∙◌}
 use mathlib.Core.List.{List, [], ◌∷◌, ◌++◌, append_assoc, append-nil}
 use native.Mathlib.Numerals.{add-one}
 use native.Mathlib.Omega.{arith}
@@ -17,11 +17,6 @@ pub record Weighing (bytes : List ℕ) (count : ℕ) (weights : List ℕ) (i : �
   pub whole : take i weights ++ weights_in (count - i) (drop (4 * i) bytes) ≡ weights_in count bytes
 
 module _ (bytes : List ℕ) (count : ℕ) (weights : List ℕ) where
-  pub weighing_none : length weights ≡ max_plans → Weighing bytes count weights 0
-  weighing_none long =
-      let all : count - 0 ≡ count = omega arith in
-      record { turns = omega arith; long = long; whole = rw all refl }
-
   module _ (i : ℕ) (so_far : Weighing bytes count weights i) where
     -- the next weight, and those after it
     next : i < count → weights_in (count - i) (drop (4 * i) bytes) ≡ big_endian (take 4 (drop (4 * i) bytes)) ∷ weights_in (count - (i + 1)) (drop (4 * (i + 1)) bytes)

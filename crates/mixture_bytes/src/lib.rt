@@ -12,7 +12,7 @@ ghost use Rattle.mixture_bytes.specs.Reading.{rows_after, PartRead, PlansRead, M
 
 use mixture_plans::{Mixture, count_is_outside, mixture_refusal};
 use model::{Head, limits};
-use numbers::{big_endian, index, lesser};
+use numbers::big_endian;
 use plan::head_refusal;
 use plan::lengths::row_length;
 use plan_bits::format;
@@ -66,7 +66,7 @@ pub fn read_mixture(bytes: &[u8]) -> ByteMixture
             used: 0,
         };
     }
-    let count = index(bytes[0]);
+    let count = usize::from(bytes[0]);
     let start = 1 + 4 * count;
     let plans = read_plans(&bytes[start..], count, heads, &mut row);
     let heads = plans.heads;
@@ -111,10 +111,10 @@ fn no_heads() -> [Head; limits::PLANS]
 fn count_refusal(bytes: &[u8]) -> u32
     ensures { result ≡ count_refusal bytes.now }
 {
-    if bytes.len() == 0 {
+    if bytes.is_empty() {
         return 1;
     }
-    let count = index(bytes[0]);
+    let count = usize::from(bytes[0]);
     if count_is_outside(count) {
         return 18;
     }
@@ -128,10 +128,8 @@ fn read_weights(bytes: &[u8], count: usize) -> [u32; limits::PLANS]
     ensures sized { length result ≡ max_plans }
 {
     let mut weights = [0u32; limits::PLANS];
-    let mut i = 0;
-    while i < count {
+    for i in 0..count {
         weights[i] = big_endian(bytes, 4 * i, 4) as u32;
-        i += 1;
     }
     weights
 }
@@ -145,10 +143,9 @@ fn read_plans(bytes: &[u8], count: usize, none: [Head; limits::PLANS], row: &mut
     ensures memory { row.new ≡ rows_after (plan_parts count bytes.now) 0 row.old }
 {
     let mut heads = none;
-    let mut i = 0;
     let mut start = 0;
     let mut used = 0;
-    while i < count {
+    for i in 0..count {
         let room = used + limits::ROW;
         let part = read_part(&bytes[start..], i + 1 == count, &mut row[used..room]);
         let refusal = part.refusal;
@@ -164,7 +161,6 @@ fn read_plans(bytes: &[u8], count: usize, none: [Head; limits::PLANS], row: &mut
         heads[i] = head;
         used += row_length(head);
         start += length;
-        i += 1;
     }
     BytePlans {
         refusal: 0,
@@ -220,7 +216,8 @@ fn part_length(bytes: &[u8], last: bool) -> usize
     ensures { result ≡ cond last (length bytes.now) (min (byte_length (head_of bytes.now)) (length bytes.now)) }
 {
     if last {
-        return bytes.len();
+        bytes.len()
+    } else {
+        format::byte_length(head_of(bytes)).min(bytes.len())
     }
-    lesser(format::byte_length(head_of(bytes)), bytes.len())
 }

@@ -78,8 +78,7 @@ fn put_range(
     ensures cleared { Cleared (lines_need (plans_head mixture) question first count) workspace.old workspace.new }
 {
     let mut end = at;
-    let mut i = 0;
-    while i < count {
+    for i in 0..count {
         end = put_question(
             text,
             end,
@@ -88,7 +87,6 @@ fn put_range(
             row,
             workspace,
         );
-        i += 1;
     }
     end
 }
@@ -109,5 +107,11 @@ fn put_question(
     ensures cleared { Cleared (question_needs (plans_head mixture) question) workspace.old workspace.new }
 {
     let bounds = ask(mixture, question, row, workspace);
-    put_bounds(text, at, question, bounds.lower as u64, bounds.upper as u64)
+    put_bounds(
+        text,
+        at,
+        question,
+        u64::from(bounds.lower),
+        u64::from(bounds.upper),
+    )
 }

@@ -1,23 +1,21 @@
 -- Plans that are alike but for their chances: the test, and the numbers of two rows that it looks at.
-use Prim.Native.Nat.{ℕ, ◌+◌, ◌<◌, ◌≤◌}
+use Prim.Native.Nat.{ℕ, ◌+◌, ◌-◌, ◌<◌, ◌≤◌}
 use mathlib.Core.Path.{◌≡◌, refl, sym, ap, ap₂, ◌∙◌}
-use mathlib.Core.Bool.{Bool, true, false, not, ◌&&◌, ◌||◌}
+use mathlib.Core.Bool.{true, false, not, ◌&&◌, ◌||◌}
 use mathlib.Core.List.{List, [], ◌∷◌, ◌++◌, map}
 use native.Mathlib.Numerals.{add-one}
 use native.Mathlib.Omega.{arith}
 use lib.Dec.{eqb}
-use lib.ListN.{length, get_or, take, drop, length-take, length-drop, drop_of_length-le}
-use mathlib.Core.Logic.{⊎_elim}
-use lib.Seq.{take-suc, take-add, take-take, drop_at, drop-drop, get_or-take, get_or-drop, take_at, get_or_at, ext_get_or, length-take-le}
+use lib.ListN.{length, get_or, take, drop, length-drop, drop_of_length-le}
+use lib.Seq.{take-suc, take-add, take-take, drop_at, drop-drop, get_or-drop, take_at, get_or_at, length-take-le}
 use borrow.Author.Tests.{eq-eqb, eqb-true, not-false}
 use Rattle.numbers.specs.Same.{same}
-use Rattle.numbers.proofs.Same.{and_true, equal_same, same_equal, both_ways}
+use Rattle.numbers.proofs.Same.{and_true, equal_same, same_equal, both_ways, told}
 use Rattle.model.specs.declared.Head.{Head}
 use Rattle.model.specs.Sums.{any}
 use Rattle.model.specs.Plan.{Plan, plan_of, row_length, horizon}
 use Rattle.model.specs.Sensitivity.{OnlyChancesDiffer}
 use Rattle.model.proofs.Facts.{horizon_is, sizes_is, neither}
-use Rattle.model.proofs.SumLaws.{below_or_not}
 use Rattle.model.specs.Refusal.{first}
 use Rattle.mixture_plans.specs.Components.{alike, unlike}
 use Rattle.mixture_plans.specs.Rows.{HeadRow, plan_rows, plan_at}
@@ -44,19 +42,6 @@ pub means_alike : (p p' : Plan) → OnlyChancesDiffer p p' → alike p p' ≡ tr
 unfolding alike
 means_alike p p' e =
     rw (eq-eqb _ _ e.months, eq-eqb _ _ e.opening, eq-eqb _ _ e.income, equal_same _ _ e.severity, eq-eqb _ _ e.tail)
-
--- whether two heads are the same, as it is told: they are not …
-pub heads_differ : (a b : Head) → (a ≡ b → ⊥) → (false ≡ true → a ≡ b) × (a ≡ b → false ≡ true)
-heads_differ a b ne = (λ e. cc, λ e. absurd (ne e))
-
--- … or the income decides
-pub heads_same :
-    (a b : Head) → a.months ≡ b.months → a.opening ≡ b.opening → a.sizes ≡ b.sizes →
-    (eqb a.income b.income ≡ true → a ≡ b) × (a ≡ b → eqb a.income b.income ≡ true)
-heads_same a b months opening sizes = (
-  λ e. let income = eqb-true a.income b.income e in λ i. record { months = months i; opening = opening i; sizes = sizes i; income = income i },
-  λ e. eq-eqb a.income b.income (ap (λ (h : Head). h.income) e),
-)
 
 -- what follows the chances of a plan's row: the weights and over
 after_chances :
@@ -103,38 +88,6 @@ alike_head h h' row row' e e' t =
     let months : h.months ≡ h'.months = sym (horizon_is h row e) ∙ d.months ∙ horizon_is h' row' e' in
     let sizes : h.sizes ≡ h'.sizes = sym (sizes_is h row e) ∙ ap length d.severity ∙ sizes_is h' row' e' in
     λ i. record { months = months i; opening = d.opening i; sizes = sizes i; income = d.income i }
-
--- Numbers compared one by one, from two places of a row on.
-pub record Comparing (row : List ℕ) (a b i : ℕ) : Type 0 where
-  pub each : (j : ℕ) → j < i → get_or row (a + j) 0 ≡ get_or row (b + j) 0
-
-module _ (row : List ℕ) (a b : ℕ) where
-  pub comparing_none : Comparing row a b 0
-  comparing_none = record { each = λ j l. absurd (omega arith) }
-
-  pub comparing_more : (i : ℕ) → Comparing row a b i → get_or row (a + i) 0 ≡ get_or row (b + i) 0 → Comparing row a b (i + 1)
-  comparing_more i so_far e =
-      record {
-        each = λ j l. ⊎_elim (λ (m : j < i). so_far.each j m) (λ (m : i ≤ j). let here : j ≡ i = omega arith in rw here e) (below_or_not j i);
-      }
-
-  -- the j-th number of each part
-  of_part : (count at j : ℕ) → j < count → get_or (take count (drop at row)) j 0 ≡ get_or row (at + j) 0
-  of_part count at j l = get_or-take count (drop at row) j 0 l ∙ get_or-drop at row j 0
-
-  module _ (count : ℕ) (fits : (a + count ≤ length row) × (b + count ≤ length row)) where
-    pub comparing_done : Comparing row a b count → same (take count (drop a row)) (take count (drop b row)) ≡ true
-    comparing_done all =
-        equal_same _ _
-        (ext_get_or 0 (take count (drop a row)) (take count (drop b row)) (simp (length-take, length-drop) (omega (arith, fits)))
-        (λ j l. let m : j < count = omega (arith, length-take count (drop a row)) in of_part count a j m ∙ all.each j m ∙ sym (of_part count b j m)))
-
-    pub comparing_differs : (j : ℕ) → j < count → (get_or row (a + j) 0 ≡ get_or row (b + j) 0 → ⊥) → false ≡ same (take count (drop a row)) (take count (drop b row))
-    comparing_differs j l ne =
-        both_ways false _ (λ e. cc)
-        (λ t.
-        absurd
-        (ne (sym (of_part count a j l) ∙ ap (λ (xs : List ℕ). get_or xs j 0) (same_equal _ _ t) ∙ of_part count b j l)))
 
 -- what a plan's row has after its chances, where the row is the first part of a longer one
 inner : (m k : ℕ) (xs : List ℕ) → m ≤ length xs → take k (drop m (take (m + k) xs)) ≡ take k (drop m xs)
@@ -223,10 +176,13 @@ module _ (heads : List Head) (row : List ℕ) (count : ℕ) (d : Head) where
         unlike_so : alike p₀ (plan_of h (take (row_length h) rest)) ≡ false → true ≡ unlike (map plan_at (plan_rows (take count heads) row))
         unlike_so e = sym (decide ∙ rw e)
 
-        -- another head, as it is told
-        pub matching_head : (r : Bool) → (h₀ ≡ h → r ≡ true) → r ≡ false → true ≡ unlike (map plan_at (plan_rows (take count heads) row))
-        matching_head r told e =
-            unlike_so (sym (both_ways false _ (λ e. cc) (λ t. sym e ∙ told (alike_head h₀ h (take (row_length h₀) row) (take (row_length h) rest) first_is here_is t))))
+        -- another head
+        pub matching_head : (h ≡ h₀ → ⊥) → true ≡ unlike (map plan_at (plan_rows (take count heads) row))
+        matching_head ne =
+            unlike_so
+            (sym
+            (both_ways false _ (λ e. cc)
+            (λ t. absurd (ne (sym (alike_head h₀ h (take (row_length h₀) row) (take (row_length h) rest) first_is here_is t))))))
 
         module _ (same_head : h₀ ≡ h) where
           -- the numbers that are compared lie in the row
@@ -250,13 +206,24 @@ module _ (heads : List Head) (row : List ℕ) (count : ℕ) (d : Head) where
               ∙ inner h₀.months (h₀.sizes + 1) rest (omega arith)
               ∙ ap (take (h₀.sizes + 1)) (drop-drop h₀.months start row)))
 
-          -- other numbers after the chances, …
-          pub matching_numbers :
-              (r : Bool) → r ≡ same (take (h₀.sizes + 1) (drop h₀.months row)) (take (h₀.sizes + 1) (drop (start + h₀.months) row)) → r ≡ false →
-              true ≡ unlike (map plan_at (plan_rows (take count heads) row))
-          matching_numbers r told e = unlike_so (alike_is ∙ sym told ∙ e)
+          -- the numbers after the chances, as the code lends them
+          module _ (step : ℕ) (es : step ≡ row_length h₀) where
+            abbrev Same : Type 0
+            Same = take (start + step - (start + h₀.months)) (drop (start + h₀.months) row) ≡ take (step - h₀.months) (drop h₀.months row)
 
-          -- … or the same, and the plans after it decide
+            first_count : step - h₀.months ≡ h₀.sizes + 1
+            first_count = omega (arith, es)
+
+            this_count : start + step - (start + h₀.months) ≡ h₀.sizes + 1
+            this_count = omega (arith, es)
+
+            -- they are others, …
+            pub matching_numbers : (Same → ⊥) → true ≡ unlike (map plan_at (plan_rows (take count heads) row))
+            matching_numbers ne =
+                let other = rw (first_count, this_count) at ne in
+                unlike_so (alike_is ∙ sym (told _ _ false (λ e. cc, λ e. absurd (other (sym e)))))
+
+          -- … or the plan is alike, and the plans after it decide
           matching_on : alike p₀ (plan_of h (take (row_length h) rest)) ≡ true → (step : ℕ) → step ≡ row_length h₀ → Matching (i + 1) (start + step)
           matching_on e step es =
               let on : drop (row_length h) rest ≡ drop (start + step) row =
@@ -268,10 +235,10 @@ module _ (heads : List Head) (row : List ℕ) (count : ℕ) (d : Head) where
                 whole = sym (decide ∙ (rw (e, on)));
               }
 
-          pub matching_more :
-              (r : Bool) → r ≡ same (take (h₀.sizes + 1) (drop h₀.months row)) (take (h₀.sizes + 1) (drop (start + h₀.months) row)) → r ≡ true →
-              (step : ℕ) → step ≡ row_length h₀ → Matching (i + 1) (start + step)
-          matching_more r told e = matching_on (alike_is ∙ sym told ∙ e)
+          pub matching_more : (step : ℕ) (es : step ≡ row_length h₀) → Same step es → Matching (i + 1) (start + step)
+          matching_more step es e =
+              let alike = rw (first_count step es, this_count step es) at e in
+              matching_on (alike_is ∙ equal_same _ _ (sym alike)) step es
 
         -- Where no plan is unlike the first, this one is not: it has the same head, and those after it are left.
         module _ (none : unlike (map plan_at (plan_rows (take count heads) row)) ≡ false) where

@@ -68,9 +68,6 @@ module _ (heads : List Head) (row : List ℕ) (count : ℕ) (enough : count ≤ 
       (drop-cons (take count heads) i d (rw (length-take-le count heads enough) l)
       ∙ ap (λ (h : Head). h ∷ drop (suc i) (take count heads)) (get_or-take count heads i d l))
 
-  pub checking_start : Checking heads row count 0 0
-  checking_start = record { turns = omega arith; inside = omega arith; whole = refl }
-
   module _ (i start : ℕ) (so_far : Checking heads row count i start) where
     pub checking_done : count ≤ i → 0 ≡ first (each_checks (plan_rows (take count heads) row))
     unfolding plan_rows each_checks flat_map first
@@ -84,7 +81,7 @@ module _ (heads : List Head) (row : List ℕ) (count : ℕ) (enough : count ≤ 
 
       -- what is left with the next plan taken off
       module _ (last : Bool) (el : last ≡ eqb (i + 1) count) (end : ℕ) (ee : end ≡ cond last (length row) (start + min (row_length h) (length row - start))) where
-        pub end_inside : (start ≤ end) × (end ≤ length row)
+        end_inside : (start ≤ end) × (end ≤ length row)
         end_inside = go last end ee
           where
             go : (last : Bool) (end : ℕ) → end ≡ cond last (length row) (start + min (row_length h) (length row - start)) → (start ≤ end) × (end ≤ length row)

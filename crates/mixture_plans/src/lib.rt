@@ -2,7 +2,6 @@
 #![tactic(auto)]
 
 ghost use Rattle.std.specs.Prelude.{◌≡◌, true, cond, ◌+◌, ◌-◌, ◌≤◌, min, eqb, length, take, drop};
-ghost use Rattle.numbers.specs.Same.{same};
 ghost use Rattle.model.specs.Scale.{S};
 ghost use Rattle.model.specs.Sums.{total};
 ghost use Rattle.model.specs.Plan.{row_length};
@@ -11,8 +10,7 @@ ghost use Rattle.mixture_plans.specs.Components.{unlike};
 ghost use Rattle.mixture_plans.specs.Rows.{weights_used, rows_of, plans_in};
 ghost use Rattle.mixture_plans.specs.Refusal.{Counted, count_outside, each_checks, mixture_refusal, mixture_ask_refusal};
 
-use model::{Ask, Head, Question, SCALE, limits};
-use numbers::lesser;
+use model::{Ask, Head, Question, WIDE_SCALE, limits};
 use plan::lengths::row_length;
 use plan::{head_refusal, plan_refusal, sum_of};
 use questions::needs::{is_outside, workspace_needed};
@@ -66,10 +64,7 @@ pub fn mixture_refusal(mixture: Mixture, row: &[u32]) -> u32
 pub fn count_is_outside(count: usize) -> bool
     ensures { result ≡ count_outside count }
 {
-    if count == 0 {
-        return true;
-    }
-    limits::PLANS < count
+    count == 0 || limits::PLANS < count
 }
 
 // The earliest refused plan's own number.
@@ -79,9 +74,8 @@ fn each_refusal(mixture: Mixture, row: &[u32]) -> u32
 {
     let heads = mixture.heads;
     let count = mixture.count;
-    let mut i = 0;
     let mut start = 0;
-    while i < count {
+    for i in 0..count {
         let head = heads[i];
         let of_head = head_refusal(head);
         if of_head != 0 {
@@ -93,7 +87,6 @@ fn each_refusal(mixture: Mixture, row: &[u32]) -> u32
             return of_plan;
         }
         start = end;
-        i += 1;
     }
     0
 }
@@ -105,9 +98,10 @@ fn row_end(head: Head, start: usize, length: usize, last: bool) -> usize
     ensures { result ≡ cond last length (start + min (row_length head) (length - start)) }
 {
     if last {
-        return length;
+        length
+    } else {
+        start + row_length(head).min(length - start)
     }
-    start + lesser(row_length(head), length - start)
 }
 
 // Whether some plan is unlike the first elsewhere than in its chances. As long as they are alike, their rows have one length.
@@ -121,50 +115,14 @@ fn is_unlike(mixture: Mixture, row: &[u32]) -> bool
     let head = heads[0];
     let step = row_length(head);
     let months = head.months;
-    let after = head.sizes + 1;
-    let mut i = 1;
     let mut start = step;
-    while i < count {
-        if !same_head(head, heads[i]) {
-            return true;
-        }
-        if !same_numbers(row, months, start + months, after) {
+    for i in 1..count {
+        if heads[i] != head || row[start + months..start + step] != row[months..step] {
             return true;
         }
         start += step;
-        i += 1;
     }
     false
-}
-
-fn same_head(a: Head, b: Head) -> bool
-    ensures { (result ≡ true → a ≡ b) × (a ≡ b → result ≡ true) }
-{
-    if a.months != b.months {
-        return false;
-    }
-    if a.opening != b.opening {
-        return false;
-    }
-    if a.sizes != b.sizes {
-        return false;
-    }
-    a.income == b.income
-}
-
-// Whether so many numbers of a row are the same from two places on.
-fn same_numbers(row: &[u32], a: usize, b: usize, count: usize) -> bool
-    requires { (a + count ≤ length row.now) × (b + count ≤ length row.now) }
-    ensures { result ≡ same (take count (drop a row.now)) (take count (drop b row.now)) }
-{
-    let mut i = 0;
-    while i < count {
-        if row[a + i] != row[b + i] {
-            return false;
-        }
-        i += 1;
-    }
-    true
 }
 
 fn weights_add(mixture: Mixture) -> bool
@@ -173,5 +131,5 @@ fn weights_add(mixture: Mixture) -> bool
 {
     let weights = mixture.weights;
     let count = mixture.count;
-    sum_of(&weights[..count]) == SCALE as u64
+    sum_of(&weights[..count]) == WIDE_SCALE
 }

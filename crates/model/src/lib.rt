@@ -20,7 +20,7 @@ pub enum Rounding {
 }
 
 // A plan's head: months n, opening reserve u, claim sizes m, and the income c of every month.
-#[derive(Clone, Copy)]
+#[derive(Clone, Copy, Debug, PartialEq, Eq)]
 pub struct Head {
     pub months: usize,
     pub opening: usize,

@@ -1,10 +1,12 @@
 -- What a record begins with: 47 words of 8 bytes, most significant byte first.
-use Rattle.std.specs.Prelude.{ℕ, zero, suc, ◌+◌, ◌*◌, cond, List, [], ◌∷◌, ◌++◌, eqb, take, drop}
+use Rattle.std.specs.Prelude.{ℕ, Option, Some, None, zero, suc, ◌+◌, ◌*◌, cond, List, [], ◌∷◌, ◌++◌, eqb, take, drop}
 use Rattle.numbers.specs.Bytes.{big_endian}
 use Rattle.model.specs.declared.Head.{Head}
 use Rattle.model.specs.declared.Question.{Question}
 use Rattle.model.specs.declared.Question.TheVariants.{Survive, Both, High, Low}
 use Rattle.model.specs.Limits.{max_plans}
+use Rattle.test_mixtures.specs.declared.record.Kind.{Kind}
+use Rattle.test_mixtures.specs.declared.record.Kind.TheVariants.{Call, Report, Model}
 use Rattle.test_mixtures.specs.declared.record.Record.{Record}
 
 -- the word of 8 bytes and the number of 4 bytes at a place, counted in words and in numbers: number 2i + 1 is the last half of word i
@@ -47,11 +49,15 @@ weights_in bytes = first_of max_plans (weight_at bytes)
 unfoldable pub question_of : ℕ → ℕ → Question
 question_of kind n = cond (eqb kind 1) (Both n) (cond (eqb kind 2) (High n) (cond (eqb kind 3) (Low n) Survive))
 
+-- the kinds in their order, a call first
+unfoldable pub kind_of : ℕ → Option Kind
+kind_of x = cond (eqb x 0) (Some Call) (cond (eqb x 1) (Some Report) (cond (eqb x 2) (Some Model) None))
+
 -- the words in their order: kind, count, heads, weights, question, its number, room, fill, length; of the fill, the last half
 unfoldable pub record_of : List ℕ → Record
 record_of bytes =
     record {
-      kind = word_at bytes 0;
+      kind = kind_of (word_at bytes 0);
       mixture = record { count = word_at bytes 1; heads = heads_in bytes; weights = weights_in bytes };
       question = question_of (word_at bytes 42) (word_at bytes 43);
       room = word_at bytes 44;

@@ -1,7 +1,7 @@
 // One call a record, and its line.
 ghost use Rattle.std.specs.Prelude.{◌*◌, ◌≤◌, length};
 
-use crate::record::Record;
+use crate::record::{Kind, Record};
 use crate::{STDIN_FILENO, figures, output, record, space};
 
 // Whether there was room for the row, and all of it in the input.
@@ -40,7 +40,7 @@ fn call(record: Record, row: &[u32], workspace: &mut [u32]) {
     let mixture = record.mixture;
     let question = record.question;
     let answer = mixture::ask(mixture, question, row, workspace);
-    if record.kind == record::MODEL {
+    if record.kind == Some(Kind::Model) {
         figures::line(answer);
     } else {
         output::line(answer, workspace);

@@ -22,12 +22,13 @@ pub fn line(answer: Answer) {
 fn rounded(x: u32) -> u64
     ensures { result ≡ ten_millionths x }
 {
-    (x as u64 * ONE + WIDE_SCALE / 2) / WIDE_SCALE
+    (u64::from(x) * ONE + WIDE_SCALE / 2) / WIDE_SCALE
 }
 
 fn print(figure: u64) {
     io::print_decimal(STDOUT_FILENO, figure / ONE);
     io::write_all(STDOUT_FILENO, b".");
+    // By tens and not by an index, so that no `for` is plainer.
     let mut place = TENTH;
     while place > 0 {
         io::print_decimal(STDOUT_FILENO, figure / place % 10);

@@ -9,7 +9,7 @@ mod record;
 mod reports;
 mod space;
 
-use record::Record;
+use record::{Kind, Record};
 
 // The descriptors that every program is started with.
 const STDIN_FILENO: i32 = 0;
@@ -35,10 +35,9 @@ fn next_record() -> bool {
 }
 
 fn answer(record: Record) -> bool {
-    let kind = record.kind;
-    match kind {
-        record::CALL | record::MODEL => calls::read_row(record),
-        record::REPORT => reports::read_bytes(record.length),
-        _ => false,
+    match record.kind {
+        Some(Kind::Call | Kind::Model) => calls::read_row(record),
+        Some(Kind::Report) => reports::read_bytes(record.length),
+        None => false,
     }
 }

@@ -4,9 +4,9 @@ use checksums::checksum;
 use engine::Answer;
 
 pub fn line(answer: Answer, workspace: &[u32]) {
-    io::print_decimal(STDOUT_FILENO, answer.refusal as u64);
-    next(answer.lower as u64);
-    next(answer.upper as u64);
+    io::print_decimal(STDOUT_FILENO, u64::from(answer.refusal));
+    next(u64::from(answer.lower));
+    next(u64::from(answer.upper));
     next(checksum(workspace));
     io::write_all(STDOUT_FILENO, b"\n");
 }

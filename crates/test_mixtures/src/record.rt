@@ -1,7 +1,7 @@
 // What a record begins with: 47 words of 8 bytes, most significant byte first.
 ghost use Rattle.std.specs.Prelude.{◌≡◌, ◌+◌, ◌*◌, ◌≤◌, ◌<◌, length};
 ghost use Rattle.model.specs.Limits.{max_plans};
-ghost use Rattle.test_mixtures.specs.Records.{word_at, number_at, numbers_in, head_at, heads_in, weights_in, question_of, record_of};
+ghost use Rattle.test_mixtures.specs.Records.{word_at, number_at, numbers_in, head_at, heads_in, weights_in, question_of, kind_of, record_of};
 
 use mixture_plans::Mixture;
 use model::{Head, Question, limits};
@@ -9,16 +9,17 @@ use numbers::big_endian;
 
 pub const BYTES: usize = 376;
 
-// The kinds: a call, the report of a mix's bytes, and a call whose bounds are printed as decimal numbers.
-pub const CALL: usize = 0;
-
-pub const REPORT: usize = 1;
-
-pub const MODEL: usize = 2;
+// A call, the report of a mix's bytes, and a call whose bounds are printed as decimal numbers.
+#[derive(Clone, Copy, PartialEq, Eq, Debug)]
+pub enum Kind {
+    Call,
+    Report,
+    Model,
+}
 
 #[derive(Clone, Copy)]
 pub struct Record {
-    pub kind: usize,
+    pub kind: Option<Kind>,
     pub mixture: Mixture,
     pub question: Question,
     pub room: usize,
@@ -30,7 +31,7 @@ pub fn decode(words: &[u8; BYTES]) -> Record
     ensures { result ≡ record_of words.now }
 {
     Record {
-        kind: word(words, 0),
+        kind: kind_of(word(words, 0)),
         mixture: Mixture {
             count: word(words, 1),
             heads: heads(words),
@@ -43,14 +44,23 @@ pub fn decode(words: &[u8; BYTES]) -> Record
     }
 }
 
+fn kind_of(number: usize) -> Option<Kind>
+    ensures { result ≡ kind_of number }
+{
+    match number {
+        0 => Some(Kind::Call),
+        1 => Some(Kind::Report),
+        2 => Some(Kind::Model),
+        _ => None,
+    }
+}
+
 fn heads(words: &[u8; BYTES]) -> [Head; limits::PLANS]
     ensures { result ≡ heads_in words.now }
 {
     let mut heads = [head(words, 0); limits::PLANS];
-    let mut i = 0;
-    while i < limits::PLANS {
+    for i in 0..limits::PLANS {
         heads[i] = head(words, i);
-        i += 1;
     }
     heads
 }
@@ -71,10 +81,8 @@ fn weights(words: &[u8; BYTES]) -> [u32; limits::PLANS]
     ensures { result ≡ weights_in words.now }
 {
     let mut weights = [0; limits::PLANS];
-    let mut i = 0;
-    while i < limits::PLANS {
+    for i in 0..limits::PLANS {
         weights[i] = number(words, 2 * i + 69);
-        i += 1;
     }
     weights
 }
@@ -110,9 +118,7 @@ pub fn unpack(bytes: &[u8], row: &mut [u32])
     requires { 4 * length row.old ≤ length bytes.now }
     ensures { row.new ≡ numbers_in (length row.old) bytes.now }
 {
-    let mut i = 0;
-    while i < row.len() {
+    for i in 0..row.len() {
         row[i] = number(bytes, i);
-        i += 1;
     }
 }

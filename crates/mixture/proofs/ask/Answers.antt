@@ -34,9 +34,6 @@ unfolding mixture_answer refused
 returns-then-refusal-ne0 c =
     let a = c.args in let both = refused_out _ c.ask_refusal-refusal.result _ _ _ _ a.workspace.now refl c.ask_refusal-refusal.ensures c.if-refusal-ne0.true in record { answered = both.0; cleared = both.1.0; encloses = both.1.1 }
 
-pub weighted_sums-sums-requires : goal.weighted_sums-sums-requires
-weighted_sums-sums-requires c = askable (goal.at.weighted_sums-sums-requires c).Else-refusal-ne0
-
 pub divide-requires : goal.divide-requires
 divide-requires c = rw c.weighted_sums-sums.ensures.lower (sum_fits _ _ (facts (goal.at.divide-requires c).Else-refusal-ne0) Down _)
 

@@ -1,4 +1,4 @@
-use Prim.Native.Nat.{◌+◌, ◌-◌, ◌*◌, ◌≤◌}
+use Prim.Native.Nat.{◌+◌, ◌*◌, ◌≤◌}
 use mathlib.Core.Path.{◌≡◌, ap, ◌∙◌}
 use mathlib.Core.Bool.{false}
 use native.Mathlib.Omega.{arith}
@@ -51,12 +51,6 @@ pub offset_bounds-row-start : goal.offset_bounds-row-start
 offset_bounds-row-start c =
     let at = goal.at.offset_bounds-row-start c in
     omega (arith, inside at.After-row_length (facts at.Start))
-
-pub slice_bounds-ask-count : goal.slice_bounds-ask-count
-slice_bounds-ask-count c = omega arith
-
-pub slice_bounds-ask-start : goal.slice_bounds-ask-start
-slice_bounds-ask-start c = omega arith
 
 pub slice_bounds-ask-end : goal.slice_bounds-ask-end
 slice_bounds-ask-end c = let at = goal.at.slice_bounds-ask-end c in inside at.After-row_length (facts at.Start)
@@ -123,9 +117,6 @@ loop-i-preserved c =
       highs = summing_more _ _ f _ _ inv.asked here Up _ _ inv.highs _ (high_product at.After-product-upper told.1.0);
       space = reused_more _ _ _ _ _ inv.space c.ask-bounds.auto.workspace told.1.1;
     })
-
-pub shape_of-workspace : goal.shape_of-workspace
-shape_of-workspace c = c.loop-i.invariant.space.long
 
 pub returns : goal.returns
 returns c =

@@ -2,10 +2,9 @@
 use mathlib.Core.Path.{sym}
 use Prim.Native.Nat.{◌≤◌}
 use lib.ListN.{length}
-use lib.Seq.{length-take-le}
 use Rattle.model.specs.Format.{head_bytes, head_of}
 use Rattle.model.specs.Refusal.{HeadAccepted}
-use Rattle.mixture_bytes.proofs.PartLaws.{early_is, early_none, row_kept, part_inside, part_answered}
+use Rattle.mixture_bytes.proofs.PartLaws.{early_is, early_none, row_kept, part_answered}
 use Rattle.mixture_bytes.proofs.read_part.Goals as goal
 use Rattle.mixture_bytes.proofs.read_part.Goals.{Else-early-ne0}
 
@@ -19,11 +18,6 @@ returns-then-early-ne0 c =
 
 pub part_length-length-requires : goal.part_length-length-requires
 part_length-length-requires c = known (goal.at.part_length-length-requires c).Else-early-ne0
-
-pub slice_bounds-read-end : goal.slice_bounds-read-end
-slice_bounds-read-end c =
-    let a = c.args in
-    sym (length-take-le _ _ (part_inside a.last a.bytes.now _ c.part_length-length.ensures))
 
 pub returns : goal.returns
 returns c =

@@ -1,10 +1,6 @@
 -- `read_weights` meets its contract. The loop's invariant: the weights read so far are the first ones.
-use Prim.Native.Nat.{◌-◌}
 use Rattle.mixture_bytes.proofs.WeightLaws.{Weighing}
 use Rattle.mixture_bytes.proofs.read_weights.Given as goal
 
 abbrev pub invariant-loop-i : goal.invariant-loop-i
 invariant-loop-i l = Weighing l.bytes l.count l.weights l.i
-
-abbrev pub decreases-loop-i : goal.decreases-loop-i
-decreases-loop-i l = l.count - l.i

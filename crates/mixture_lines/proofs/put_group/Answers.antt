@@ -10,6 +10,3 @@ line_range-range-requires c = head_ok c.requires.mixture_answerable
 
 pub put_range-requires : goal.put_range-requires
 put_range-requires c = record { mixture_answerable = c.requires.mixture_answerable; lines_fit = rw c.line_range-range.ensures (range_fits _ _ (head_facts _ (head_ok c.requires.mixture_answerable)) (search rules) c.requires.line_room_in_bounds) }
-
-pub returns : goal.returns
-returns c = record { written = rw (← c.line_range-range.ensures) c.put_range.ensures.written; cleared = rw (← c.line_range-range.ensures) c.put_range.ensures.cleared }

@@ -1,12 +1,11 @@
 -- `put_mixture` meets its contract: the head line and the groups of lines, one after another.
 use Prim.Native.Nat.{◌+◌}
-use mathlib.Core.Path.{◌∙◌}
 use native.Mathlib.Omega.{arith}
 use Rattle.model.specs.declared.Question.TheVariants.{Survive, Both, High, Low}
 use Rattle.model.proofs.Facts.{head_facts}
 use Rattle.text.proofs.TextLaws.{appended_more}
 use Rattle.report_lines.specs.Asking.{Cleared}
-use Rattle.report_lines.proofs.AskingLaws.{cleared_more, cleared_long}
+use Rattle.report_lines.proofs.AskingLaws.{cleared_more}
 use Rattle.report_lines.proofs.LineLaws.{head_ends}
 use Rattle.report_groups.specs.Groups.{most_lines}
 use Rattle.report_groups.proofs.GroupLaws.{Leaves, group_leaves}
@@ -77,14 +76,6 @@ put_group-requires c =
           c.put_group-end-3.ensures.cleared;
       line_room_in_bounds = omega (arith, left.long, left.room);
     }
-
-pub shape_of-text : goal.shape_of-text
-shape_of-text c =
-    let at = goal.at.shape_of-text c in
-    c.put_group.auto.text ∙ (after_high at.After-put_group-end-3 (after_both at.After-put_group-end-2 (after_survive at.After-put_group-end (after_head at.After-put_head-end)))).long
-
-pub shape_of-workspace : goal.shape_of-workspace
-shape_of-workspace c = cleared_long c.requires.mixture_answerable.room (all_cleared (goal.at.shape_of-workspace c).After-put_group)
 
 pub returns : goal.returns
 unfolding mixture_report

@@ -11,6 +11,6 @@ returns c =
     let pre = c.requires in
     let answer = c.ask-bounds.ensures.answered ∙ asked pre.mixture_answerable _ pre.question_value in
     record {
-      written = rw (← ap (λ (a : Answer). a.lower) answer, ← ap (λ (a : Answer). a.upper) answer) c.put_bounds.ensures;
+      written = rw (← (c.from.ensures ∙ ap (λ (a : Answer). a.lower) answer), ← (c.from-2.ensures ∙ ap (λ (a : Answer). a.upper) answer)) c.put_bounds.ensures;
       cleared = asked_clears pre.mixture_answerable _ pre.question_value c.ask-bounds.ensures.cleared;
     }

@@ -4,7 +4,6 @@ use borrow.Author.Rules.{rules}
 use Rattle.model.specs.Refusal.{outside}
 use Rattle.text.proofs.TextLaws.{appending_room_each}
 use Rattle.report_lines.specs.Lines.{line_room}
-use Rattle.report_lines.proofs.AskingLaws.{cleared_long}
 use Rattle.report_groups.proofs.GroupLaws.{putting_none, putting_more, putting_done}
 use Rattle.mixture_lines.proofs.AskingLaws.{mixture_short, answerable_still}
 use Rattle.mixture_lines.proofs.put_range.Goals as goal
@@ -24,12 +23,6 @@ pub loop-i-preserved : goal.loop-i-preserved
 loop-i-preserved c =
     let put = c.put_question-end in
     putting_more c.loop-i.invariant c.numbered.result c.numbered.ensures (search rules) put.auto.text put.ensures.written put.ensures.cleared
-
-pub shape_of-text : goal.shape_of-text
-shape_of-text c = c.loop-i.invariant.lines.long
-
-pub shape_of-workspace : goal.shape_of-workspace
-shape_of-workspace c = cleared_long c.requires.mixture_answerable.room c.loop-i.invariant.space
 
 pub returns : goal.returns
 returns c = let both = putting_done c.loop-i.invariant (search rules) in record { written = both.0; cleared = both.1 }

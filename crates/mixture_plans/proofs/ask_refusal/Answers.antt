@@ -21,8 +21,8 @@ pub returns-then-is_outside : goal.returns-then-is_outside
 returns-then-is_outside c =
     ask_outside _ _ _ _ _ c.mixture_refusal-refused.ensures c.if-refused-ne0.false (sym c.is_outside.ensures ∙ c.if-is_outside.true)
 
-pub workspace_needed-requires : goal.workspace_needed-requires
-workspace_needed-requires c = record { head_accepted = head_accepted _ _ (facts (goal.at.workspace_needed-requires c).Else-refused-ne0); question_value = sym c.is_outside.ensures ∙ c.if-is_outside.false }
+pub workspace_needed-requires-clause-head_accepted : goal.workspace_needed-requires-clause-head_accepted
+workspace_needed-requires-clause-head_accepted c = head_accepted _ _ (facts (goal.at.workspace_needed-requires-clause-head_accepted c).Else-refused-ne0)
 
 -- the workspace decides
 left : (c : After-workspace_needed) → cond (ltb c.args.room c.workspace_needed.result) 11 0 ≡ mixture_ask_refusal c.args.mixture c.args.question c.args.row.now c.args.room

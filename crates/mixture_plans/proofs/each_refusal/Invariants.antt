@@ -1,6 +1,6 @@
 -- `each_refusal` meets its contract. The loop's invariant: the plans passed are accepted, so that those that are left decide.
 use mathlib.Core.Path.{◌≡◌}
-use Prim.Native.Nat.{◌-◌, ◌≤◌}
+use Prim.Native.Nat.{◌≤◌}
 use lib.ListN.{length}
 use Rattle.model.specs.Limits.{max_plans}
 use Rattle.mixture_plans.proofs.RowLaws.{Checking}
@@ -8,6 +8,3 @@ use Rattle.mixture_plans.proofs.each_refusal.Given as goal
 
 abbrev pub invariant-loop-i : goal.invariant-loop-i
 invariant-loop-i l = (length l.heads ≡ max_plans) × ((l.count ≤ max_plans) × Checking l.heads l.row l.count l.i l.start)
-
-abbrev pub decreases-loop-i : goal.decreases-loop-i
-decreases-loop-i l = l.count - l.i

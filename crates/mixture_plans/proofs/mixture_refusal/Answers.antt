@@ -22,8 +22,8 @@ pub returns-then-of_plans-ne0 : goal.returns-then-of_plans-ne0
 returns-then-of_plans-ne0 c =
     by_each _ _ (sym c.count_is_outside.ensures ∙ c.if-count_is_outside.false) _ c.each_refusal-of_plans.ensures c.if-of_plans-ne0.true
 
-pub is_unlike-requires : goal.is_unlike-requires
-is_unlike-requires c = record { counted = known (goal.at.is_unlike-requires c).Else-count_is_outside; row_value = sym c.each_refusal-of_plans.ensures ∙ c.if-of_plans-ne0.false }
+pub is_unlike-requires-clause-counted : goal.is_unlike-requires-clause-counted
+is_unlike-requires-clause-counted c = known (goal.at.is_unlike-requires-clause-counted c).Else-count_is_outside
 
 pub returns-then-is_unlike : goal.returns-then-is_unlike
 returns-then-is_unlike c =

@@ -1,4 +1,3 @@
-use Prim.Native.Nat.{◌-◌}
 use mathlib.Core.Path.{refl}
 use Rattle.test_mixtures.proofs.StoreLaws.{storing_none, storing_more, storing_done}
 use Rattle.test_mixtures.proofs.record.heads.Goals as goal

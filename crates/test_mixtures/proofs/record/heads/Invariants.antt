@@ -1,5 +1,4 @@
 -- `record::heads` meets its contract: a head for each plan that a mixture can have.
-use Prim.Native.Nat.{◌-◌}
 use Rattle.model.specs.Limits.{max_plans}
 use Rattle.test_mixtures.specs.Records.{head_at}
 use Rattle.test_mixtures.proofs.StoreLaws.{Storing}
@@ -7,6 +6,3 @@ use Rattle.test_mixtures.proofs.record.heads.Given as goal
 
 abbrev pub invariant-loop-i : goal.invariant-loop-i
 invariant-loop-i l = Storing (head_at l.words) max_plans l.heads l.i
-
-abbrev pub decreases-loop-i : goal.decreases-loop-i
-decreases-loop-i l = max_plans - l.i

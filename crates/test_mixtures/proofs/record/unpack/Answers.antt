@@ -1,15 +1,10 @@
 use mathlib.Core.Path.{refl}
-use Prim.Native.Nat.{◌-◌}
 use native.Mathlib.Omega.{arith}
-use lib.ListN.{length-set}
 use Rattle.test_mixtures.proofs.StoreLaws.{storing_none, storing_more, storing_done}
 use Rattle.test_mixtures.proofs.record.unpack.Goals as goal
 
 pub loop-i-init : goal.loop-i-init
 loop-i-init c = storing_none _ _ _ refl
-
-pub loop-i-smaller : goal.loop-i-smaller
-loop-i-smaller c = simp length-set (omega arith)
 
 pub loop-i-preserved : goal.loop-i-preserved
 loop-i-preserved c =

@@ -1,5 +1,4 @@
 use mathlib.Core.Path.{refl}
-use Prim.Native.Nat.{◌-◌}
 use Rattle.test_mixtures.proofs.StoreLaws.{storing_none, storing_more, storing_done}
 use Rattle.test_mixtures.proofs.record.weights.Goals as goal
 
