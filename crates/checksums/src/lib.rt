@@ -7,20 +7,15 @@ ghost use Rattle.checksums.specs.Checksum.{more, checksum};
 const MODULUS: u64 = 1000000007;
 
 // A sum that depends on each number and its place.
+#[tactic(auto, unfolding(crate::specs::Checksum::checksum))]
 pub fn checksum(numbers: &[u32]) -> u64
     ensures { result ≡ checksum numbers.now }
 {
-    let mut sum: u64 = 0;
-    let mut i = 0;
-    while i < numbers.len() {
-        sum = more(sum, numbers[i]);
-        i += 1;
-    }
-    sum
+    numbers.iter().fold(0, |sum, x| more(sum, *x))
 }
 
 fn more(sum: u64, x: u32) -> u64
     ensures { result ≡ more sum x }
 {
-    (sum % MODULUS * 31 + x as u64) % MODULUS
+    (sum % MODULUS * 31 + u64::from(x)) % MODULUS
 }

@@ -18,12 +18,15 @@ use Rattle.model.specs.Refusal.{first, head_checks, tail_survivable, HeadAccepte
 use Rattle.model.proofs.Facts.{numbered, lacks, neither, first_append, first_lacks, none_fits, none_fits_append, head_numbered, head_facts, horizon_is, sizes_is}
 use Rattle.doubles.specs.Doubles.{nought, one, within}
 use Rattle.doubles.proofs.RangeLaws.{within_alpha}
+use Rattle.sheet_values.specs.declared.ChanceRule.TheVariants.{Level, Ramp}
+use Rattle.sheet_values.specs.declared.Kind.{Kind}
+use Rattle.sheet_values.specs.declared.Kind.TheVariants.{Level as Kind·Level, Ramp as Kind·Ramp}
 use Rattle.sheet_values.specs.declared.RuleSheet.{RuleSheet}
-use Rattle.sheet_values.specs.Sheet.{sheet_length, kind_of, first_of, step_of, alpha_of, sheet_of, sheet_head}
+use Rattle.sheet_values.specs.Sheet.{sheet_length, kind_number, kind_of, first_of, step_of, alpha_of, sheet_rule, sheet_of, sheet_head}
 use Rattle.sheet_values.specs.Rules.{chance, weights, tail, sheet_row}
 use Rattle.sheet_values.specs.Terms.{MakesPlan}
 use Rattle.sheet_values.proofs.RuleLaws.{tail_left, row_is, row_tail}
-use Rattle.sheet_checks.specs.Refusal.{kind_checks, rule_checks, weight_checks, sheet_checks, sheet_refusal}
+use Rattle.sheet_checks.specs.Refusal.{is_level, kind_checks, rule_checks, weight_checks, sheet_checks, sheet_refusal}
 
 -- the number of what a first list refuses, or of what follows it
 abbrev pub or_then : ℕ → ℕ → ℕ
@@ -106,11 +109,15 @@ module _ (bytes : List ℕ) where
   not_a_sheet differs = kinds_first ∙ rw (ne_eqb _ _ differs)
 
   module _ (length_is : length bytes ≡ sheet_length) where
-    pub level_kind : kind_of bytes ≡ 1 → first (kind_checks bytes) ≡ 0
+    level_kind : kind_of bytes ≡ 1 → first (kind_checks bytes) ≡ 0
     level_kind is = kinds_first ∙ rw (eq-eqb _ _ length_is, is)
 
-    pub ramp_kind : kind_of bytes ≡ 2 → first (kind_checks bytes) ≡ 0
+    ramp_kind : kind_of bytes ≡ 2 → first (kind_checks bytes) ≡ 0
     ramp_kind is = kinds_first ∙ rw (eq-eqb _ _ length_is, is)
+
+    pub known_kind : (kind : Kind) → kind_number kind ≡ kind_of bytes → first (kind_checks bytes) ≡ 0
+    known_kind Kind·Level is = level_kind (sym is)
+    known_kind Kind·Ramp is = ramp_kind (sym is)
 
     pub other_kind : (kind_of bytes ≡ 1 → ⊥) → (kind_of bytes ≡ 2 → ⊥) → first (kind_checks bytes) ≡ 12
     other_kind no_level no_ramp = kinds_first ∙ rw (eq-eqb _ _ length_is, ne_eqb _ _ no_level, ne_eqb _ _ no_ramp)
@@ -132,6 +139,15 @@ module _ (bytes : List ℕ) where
   pub rules_first : first (rule_checks bytes) ≡ cond (not finite_test) 13 (cond alpha_test 13 (cond step_test 13 (cond chance_test 13 0)))
   unfolding first rule_checks
   rules_first = refl
+
+  -- a level's rule
+  pub is_level_kind : is_level s.rule ≡ eqb (kind_of bytes) 1
+  unfolding sheet_of sheet_rule
+  is_level_kind = go (eqb (kind_of bytes) 1)
+    where
+      go : (b : Bool) → is_level (cond b (Level (first_of bytes)) (Ramp (first_of bytes) (step_of bytes))) ≡ b
+      go true = refl
+      go false = refl
 
   -- ---- all checks
 

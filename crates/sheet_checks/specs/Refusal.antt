@@ -1,5 +1,5 @@
 -- When a sheet is turned away (document 02, Job 4). The numbers 12 (kind) and 13 (rule) are new; the others are those of document 01's table.
-use Rattle.std.specs.Prelude.{ℕ, Bool, not, ◌&&◌, ◌||◌, List, [], ◌∷◌, ◌++◌, ltb, eqb, length}
+use Rattle.std.specs.Prelude.{ℕ, Bool, true, false, not, ◌&&◌, ◌||◌, List, [], ◌∷◌, ◌++◌, ltb, eqb, length}
 use Rattle.std.specs.Float.Ieee.{lt, ne}
 use Rattle.std.specs.Float.Ieee.Scale.{finite}
 use Rattle.model.specs.Scale.{S}
@@ -7,9 +7,16 @@ use Rattle.model.specs.Sums.{one_to, total, any}
 use Rattle.model.specs.Plan.{plan_of}
 use Rattle.model.specs.Refusal.{first, head_checks, tail_survivable, room_check}
 use Rattle.doubles.specs.Doubles.{nought, one, within}
+use Rattle.sheet_values.specs.declared.ChanceRule.{ChanceRule}
+use Rattle.sheet_values.specs.declared.ChanceRule.TheVariants.{Level, Ramp}
 use Rattle.sheet_values.specs.declared.RuleSheet.{RuleSheet}
 use Rattle.sheet_values.specs.Sheet.{sheet_length, kind_of, first_of, step_of, alpha_of, sheet_of, sheet_head}
 use Rattle.sheet_values.specs.Rules.{chance, weights, sheet_row}
+
+-- whether the chance is the same in all months
+abbrev pub is_level : ChanceRule → Bool
+is_level (Level _) = true
+is_level (Ramp _ _) = false
 
 -- "a sheet not of 29 bytes with 5, never 1; a kind other than 1 or 2 with new number 12 (kind), right after 5"
 unfoldable pub kind_checks : List ℕ → List (ℕ × Bool)

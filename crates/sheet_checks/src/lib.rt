@@ -1,13 +1,13 @@
 // When a sheet is turned away, in the order of its checks: the layer below a sheet's calls.
 #![tactic(auto)]
 
-ghost use Rattle.std.specs.Prelude.{◌≡◌, true, not, ◌&&◌, ◌||◌, eqb, length};
+ghost use Rattle.std.specs.Prelude.{◌≡◌, true, not, ◌&&◌, ◌||◌, length};
 ghost use Rattle.std.specs.Float.Ieee.{lt, ne};
 ghost use Rattle.std.specs.Float.Ieee.Scale.{finite};
 ghost use Rattle.model.specs.Refusal.{first, HeadAccepted};
 ghost use Rattle.doubles.specs.Doubles.{nought, one, within};
 ghost use Rattle.sheet_values.specs.Sheet.{sheet_length, sheet_of, sheet_head};
-ghost use Rattle.sheet_checks.specs.Refusal.{kind_checks, rule_checks, weight_checks, sheet_checks};
+ghost use Rattle.sheet_checks.specs.Refusal.{is_level, kind_checks, rule_checks, weight_checks, sheet_checks};
 
 use doubles::is_finite;
 use model::SCALE;
@@ -15,7 +15,7 @@ use numbers::big_endian;
 use plan::lengths::largest_level;
 use sheet_values::bytes::double;
 use sheet_values::rules::{some_outside, weights_total};
-use sheet_values::{RuleSheet, bytes};
+use sheet_values::{ChanceRule, Kind, RuleSheet, UnknownKind, bytes};
 
 // 5 length, 12 kind.
 fn kind_refusal(bytes: &[u8]) -> u32
@@ -24,46 +24,33 @@ fn kind_refusal(bytes: &[u8]) -> u32
     if bytes.len() != bytes::LENGTH {
         return 5;
     }
-    let kind = big_endian(bytes, bytes::KIND, 1);
-    if kind == bytes::LEVEL {
-        return 0;
+    match Kind::try_from(big_endian(bytes, bytes::KIND, 1)) {
+        Ok(_) => 0,
+        Err(UnknownKind) => 12,
     }
-    if kind == 2 {
-        return 0;
-    }
-    12
 }
 
 fn all_finite(first: f64, step: f64, alpha: f64) -> bool
     ensures { result ≡ (finite first && finite step && finite alpha) }
 {
-    if !is_finite(first) {
-        return false;
-    }
-    if !is_finite(step) {
-        return false;
-    }
-    is_finite(alpha)
+    is_finite(first) && is_finite(step) && is_finite(alpha)
 }
 
 // Whether alpha is below 0 or not below 1.
 fn alpha_outside(alpha: f64) -> bool
     ensures { result ≡ (lt alpha nought || not (lt alpha one)) }
 {
-    if alpha < 0.0 {
-        return true;
-    }
-    !(alpha < 1.0)
+    alpha < 0.0 || !(alpha < 1.0)
 }
 
 // Whether a level has a step that is not zero.
-fn level_steps(kind: usize, step: f64) -> bool
-    ensures { result ≡ (eqb kind 1 && ne step nought) }
+fn level_steps(rule: ChanceRule, step: f64) -> bool
+    ensures { result ≡ (is_level rule && ne step nought) }
 {
-    if kind == bytes::LEVEL {
-        return step != 0.0;
+    match rule {
+        ChanceRule::Level(_) => step != 0.0,
+        ChanceRule::Ramp(..) => false,
     }
-    false
 }
 
 // 13 rule.
@@ -73,7 +60,6 @@ fn rule_refusal(bytes: &[u8]) -> u32
     ensures { result ≡ first (rule_checks bytes.now) }
 {
     let sheet = bytes::sheet_of(bytes);
-    let kind = big_endian(bytes, bytes::KIND, 1);
     let first = double(bytes, bytes::FIRST);
     let step = double(bytes, bytes::STEP);
     let alpha = double(bytes, bytes::ALPHA);
@@ -83,10 +69,10 @@ fn rule_refusal(bytes: &[u8]) -> u32
     if alpha_outside(alpha) {
         return 13;
     }
-    if level_steps(kind, step) {
+    let rule = sheet.rule;
+    if level_steps(rule, step) {
         return 13;
     }
-    let rule = sheet.rule;
     if some_outside(rule, sheet.months) {
         return 13;
     }
@@ -101,13 +87,12 @@ fn weight_refusal(sheet: RuleSheet) -> u32
     let sizes = sheet.sizes;
     let alpha = sheet.alpha;
     let total = weights_total(alpha, sizes);
-    if (SCALE as u64) < total {
+    let scale = u64::from(SCALE);
+    if scale < total {
         return 8;
     }
-    if total < SCALE as u64 {
-        if sizes + 1 < largest_level(bytes::head_of(sheet)) {
-            return 9;
-        }
+    if total < scale && sizes + 1 < largest_level(bytes::head_of(sheet)) {
+        return 9;
     }
     0
 }

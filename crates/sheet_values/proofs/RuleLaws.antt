@@ -1,8 +1,9 @@
--- The weights and chances of a sheet, one by one: each weight lies in 0 to 1, so its parts fit, and the loops over them.
-use Prim.Native.Nat.{ℕ, zero, suc, ◌+◌, ◌*◌, ◌-◌, ◌^◌, ◌≤◌, ◌<◌}
+-- The weights and chances of a sheet, one by one: each weight lies in 0 to 1, so its parts fit; what is told of all of them.
+use Prim.Native.Nat.{ℕ, zero, suc, ◌+◌, ◌-◌, ◌<◌}
 use mathlib.Core.Path.{◌≡◌, refl, sym, ap, ap₂, ◌∙◌}
-use mathlib.Core.Bool.{true, false, not}
+use mathlib.Core.Bool.{Bool, true, false, not}
 use mathlib.Core.List.{List, [], ◌∷◌, ◌++◌, append-nil}
+use native.Mathlib.Nat.{zero-add, add_assoc}
 use native.Mathlib.Numerals.{add-one}
 use native.Mathlib.Omega.{arith}
 use borrow.Author.Tests.{not-false}
@@ -11,16 +12,17 @@ use lib.Ieee.{Float, binary64, of_int, add, sub, mul}
 use lib.ListN.{length, get_or, drop, set, length-append, drop_of_length-le}
 use lib.Seq.{get_or-append-add, drop-cons, set_at, take_at, drop_at}
 use borrow.Rule.Slice.PartMut.{put_mid}
-use Rattle.model.specs.Limits.{max_sizes}
+use Rattle.std.specs.Bool.{MatchBool}
+use Rattle.std.specs.List.{sum as summed, fold, range_with_len, HoldsAt, AllWithin}
+use Rattle.std.proofs.lemmas.List.FromFn.{length-range_with_len, get_or-range_with_len}
 use Rattle.model.specs.Scale.{S}
 use Rattle.model.specs.Sums.{sum, one_to, total, any}
 use Rattle.model.specs.Plan.{row_length}
-use Rattle.model.proofs.SumLaws.{sum_last, sum_at_most, total_one_to, none_at}
+use Rattle.model.proofs.SumLaws.{sum_last, total_one_to, none_at, none_to, some_to}
 use Rattle.model.proofs.Counts.{length_tabulate}
 use Rattle.model.proofs.Filling.{map_one_to}
 use Rattle.doubles.specs.Doubles.{one, within, parts}
 use Rattle.doubles.proofs.RangeLaws.{within_rest, within_product}
-use Rattle.doubles.proofs.PartLaws.{parts_fit}
 use Rattle.sheet_values.specs.declared.ChanceRule.{ChanceRule}
 use Rattle.sheet_values.specs.declared.ChanceRule.TheVariants.{Level, Ramp}
 use Rattle.sheet_values.specs.declared.RuleSheet.{RuleSheet}
@@ -63,41 +65,14 @@ module _ (alpha : Float) where
   pub weight_sum_next : (i : ℕ) → weight_sum i + parts (weight alpha (i + 1)) ≡ weight_sum (i + 1)
   weight_sum_next i = rw (add-one) (sym (sum_last i (λ x. parts (weight alpha x))))
 
-  weight_sum_fits : within alpha ≡ true → (n : ℕ) → weight_sum n ≤ n * S
-  weight_sum_fits h n = sum_at_most n S _ (λ i. parts_fit (weight alpha (suc i)) (weight_within h (suc i)))
-
--- The sum of the sizes passed, and the weight of the next.
-pub record Summing (alpha : Float) (sizes so_far : ℕ) (w : Float) (passed : ℕ) : Type 0 where
-  pub reached : passed ≤ sizes
-  pub summed : so_far ≡ weight_sum alpha passed
-  pub next : w ≡ weight alpha (passed + 1)
-
-module _ (alpha : Float) (sizes : ℕ) where
-  pub summing_none : (w : Float) → w ≡ sub binary64 one alpha → Summing alpha sizes 0 w 0
-  unfolding sum
-  summing_none w first = record { reached = omega arith; summed = refl; next = first ∙ weight_first alpha }
-
-  module _ (so_far : ℕ) (w : Float) (passed : ℕ) (before : Summing alpha sizes so_far w passed) where
-    pub summing_more : (v : ℕ) → v ≡ parts w → passed < sizes → Summing alpha sizes (so_far + v) (mul binary64 w alpha) (passed + 1)
-    summing_more v is more =
-        record {
-          reached = omega arith;
-          summed = ap₂ ◌+◌ before.summed (is ∙ ap parts before.next) ∙ weight_sum_next alpha passed;
-          next = ap (λ k. mul binary64 k alpha) before.next ∙ weight_next alpha passed;
-        }
-
-    pub next_within : within alpha ≡ true → within w ≡ true
-    next_within h = rw before.next (weight_within alpha h (passed + 1))
-
-    pub summing_fits : within alpha ≡ true → sizes ≤ max_sizes → (v : ℕ) → v ≡ parts w → passed < sizes → so_far + v < 2 ^ 64
-    unfolding S
-    summing_fits h few v is more =
-        omega (arith, before.summed, weight_sum_fits alpha h passed, parts_fit w (next_within h))
-
-    pub summing_done : sizes ≤ passed → so_far ≡ total (weights alpha sizes)
-    summing_done all =
-        let whole : passed ≡ sizes = omega (arith, before.reached) in
-        before.summed ∙ weight_sum_whole alpha passed ∙ ap (λ n. total (weights alpha n)) whole
+-- the sum of a list, as the library adds it up
+pub total_summed : (xs : List ℕ) → summed xs ≡ total xs
+unfolding total
+total_summed xs = from xs 0 ∙ zero-add (total xs)
+  where
+    from : (xs : List ℕ) (start : ℕ) → fold (λ a x. a + x) start xs ≡ start + total xs
+    from [] start = omega arith
+    from (x ∷ xs) start = from xs (start + x) ∙ add_assoc start x (total xs)
 
 -- ---- the chances
 
@@ -114,6 +89,21 @@ ramp_chance first step i = refl
 pub chance_within :
     (rule : ChanceRule) (n : ℕ) → any (λ i. not (within (chance rule i))) (one_to n) ≡ false → (i : ℕ) → i < n → within (chance rule (i + 1)) ≡ true
 chance_within rule n e i l = rw add-one (not-false _ (none_at n (λ k. not (within (chance rule k))) e i l))
+
+nth_of : (n k : ℕ) → k < n → get_or (range_with_len 0 n) k 0 ≡ k
+nth_of n k l = get_or-range_with_len 0 n k 0 l ∙ zero-add k
+
+-- a test of each of 1 to n, as a chain over a range tells it
+pub any_told :
+    (n : ℕ) (test : ℕ → Bool) (told : Bool) →
+    let all = range_with_len 0 n in
+    MatchBool told ((k : ℕ) × (k < length all) × HoldsAt (λ i. test (suc i) ≡ true) all k) (AllWithin (λ i. test (suc i) ≡ false) all 0 (length all)) →
+    told ≡ any test (one_to n)
+any_told n test true h =
+    let below : h.0 < n = omega (arith, h.1, length-range_with_len 0 n) in
+    sym (some_to n test h.0 below (ap (λ i. test (suc i)) (sym (nth_of n h.0 below)) ∙ h.2 0))
+any_told n test false h =
+    sym (none_to n test (λ k l. ap (λ i. test (suc i)) (sym (nth_of n k l)) ∙ h k 0 (omega arith) (omega (arith, l, length-range_with_len 0 n))))
 
 -- ---- the row
 

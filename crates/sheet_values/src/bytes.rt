@@ -3,7 +3,7 @@ ghost use Rattle.std.specs.Prelude.{◌≡◌, cond, ◌+◌, ◌≤◌, eqb, le
 ghost use Rattle.sheet_values.specs.Sheet.{sheet_length, sheet_of, sheet_head};
 ghost use Rattle.sheet_values.specs.Sheet.{double as Sheet·double};
 
-use crate::{ChanceRule, RuleSheet};
+use crate::{ChanceRule, Kind, RuleSheet, UnknownKind};
 use model::Head;
 use numbers::big_endian;
 
@@ -24,9 +24,6 @@ pub const STEP: usize = 13;
 
 pub const ALPHA: usize = 21;
 
-// The kind of a level sheet.
-pub const LEVEL: usize = 1;
-
 pub fn double(bytes: &[u8], at: usize) -> f64
     requires { at + 8 ≤ length bytes.now }
     ensures { result ≡ Sheet·double at bytes.now }
@@ -34,13 +31,14 @@ pub fn double(bytes: &[u8], at: usize) -> f64
     doubles::of_bits(big_endian(bytes, at, 8) as u64)
 }
 
+// The rule of a sheet's kind. A number that no kind has, which a sheet's checks turn away, is read as a ramp's.
 fn rule_of(kind: usize, first: f64, step: f64) -> ChanceRule
     ensures { result ≡ cond (eqb kind 1) (ChanceRule.Level first) (ChanceRule.Ramp first step) }
 {
-    if kind == LEVEL {
-        return ChanceRule::Level(first);
+    match Kind::try_from(kind) {
+        Ok(Kind::Level) => ChanceRule::Level(first),
+        Ok(Kind::Ramp) | Err(UnknownKind) => ChanceRule::Ramp(first, step),
     }
-    ChanceRule::Ramp(first, step)
 }
 
 pub fn sheet_of(bytes: &[u8]) -> RuleSheet

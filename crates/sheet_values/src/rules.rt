@@ -11,8 +11,7 @@ ghost use Rattle.sheet_values.specs.Rules.{chance as Rules·chance};
 
 use crate::{ChanceRule, RuleSheet};
 use doubles::{is_within, parts};
-use model::SCALE;
-use numbers::wide;
+use model::{SCALE, limits};
 
 // The chance of a month, counted from 1: the product is rounded, and then the sum.
 fn chance(rule: ChanceRule, month: usize) -> f64
@@ -30,14 +29,7 @@ pub fn some_outside(rule: ChanceRule, months: usize) -> bool
     requires { months ≤ max_months }
     ensures { result ≡ any (λ i. not (within (Rules·chance rule i))) (one_to months) }
 {
-    let mut passed = 0;
-    while passed < months {
-        if !is_within(chance(rule, passed + 1)) {
-            return true;
-        }
-        passed += 1;
-    }
-    false
+    (0..months).any(|passed| !is_within(chance(rule, passed + 1)))
 }
 
 // The sum of the weights of all sizes.
@@ -45,15 +37,10 @@ pub fn weights_total(alpha: f64, sizes: usize) -> u64
     requires { (within alpha ≡ true) × (sizes ≤ max_sizes) }
     ensures { result ≡ total (weights alpha sizes) }
 {
-    let mut sum: u64 = 0;
-    let mut weight = 1.0 - alpha;
-    let mut passed = 0;
-    while passed < sizes {
-        sum += wide(parts(weight));
-        weight = weight * alpha;
-        passed += 1;
-    }
-    sum
+    let mut row = [0; limits::SIZES];
+    let weights = &mut row[..sizes];
+    put_weights(alpha, weights);
+    weights.iter().map(|x| u64::from(*x)).sum()
 }
 
 fn put_chances(rule: ChanceRule, row: &mut [u32])
@@ -61,10 +48,8 @@ fn put_chances(rule: ChanceRule, row: &mut [u32])
     requires row_value { any (λ i. not (within (Rules·chance rule i))) (one_to (length row.old)) ≡ false }
     ensures { row.new ≡ chances rule (length row.old) }
 {
-    let mut i = 0;
-    while i < row.len() {
-        row[i] = parts(chance(rule, i + 1));
-        i += 1;
+    for (i, place) in row.iter_mut().enumerate() {
+        *place = parts(chance(rule, i + 1));
     }
 }
 
@@ -73,11 +58,9 @@ fn put_weights(alpha: f64, row: &mut [u32])
     ensures { row.new ≡ weights alpha (length row.old) }
 {
     let mut weight = 1.0 - alpha;
-    let mut i = 0;
-    while i < row.len() {
-        row[i] = parts(weight);
-        weight = weight * alpha;
-        i += 1;
+    for place in row.iter_mut() {
+        *place = parts(weight);
+        weight *= alpha;
     }
 }
 

@@ -2,8 +2,6 @@
 // as two bytes with its length, most significant first, and its bytes.
 #![tactic(auto)]
 
-use numbers::big_endian;
-
 // The descriptors that every program is started with.
 const STDIN_FILENO: i32 = 0;
 
@@ -16,16 +14,14 @@ fn main() {
 }
 
 // A plan that is cut off, since the input ends, has no report.
-fn print_reports(plans: &[u8]) {
-    let mut at = 0;
-    while 2 <= plans.len() - at {
-        let start = at + 2;
-        let length = big_endian(plans, at, 2);
-        if plans.len() - start < length {
+fn print_reports(mut plans: &[u8]) {
+    while let Some((size, after)) = plans.split_first_chunk::<2>() {
+        let length = usize::from(u16::from_be_bytes(*size));
+        let Some((plan, left)) = after.split_at_checked(length) else {
             return;
-        }
-        at = start + length;
-        print_report(&plans[start..at]);
+        };
+        print_report(plan);
+        plans = left;
     }
 }
 

@@ -4,7 +4,6 @@ ghost use Rattle.test_sheets.specs.Rooms.{row_capacity, byte_capacity};
 
 use crate::STDOUT_FILENO;
 use model::limits;
-use numbers::{index, wide};
 
 // Numbers more than any call needs, to see that they stay as they were; specs/Rooms.antt has both rooms for the contracts.
 const ROW: usize = limits::ROW + 6;
@@ -36,12 +35,12 @@ pub fn read(room: usize, sheet: &[u8]) {
 fn read_into(sheet: &[u8], row: &mut [u32]) {
     let answer = sheet_plan::read(sheet, row);
     let head = answer.head;
-    io::print_decimal(STDOUT_FILENO, answer.refusal as u64);
+    io::print_decimal(STDOUT_FILENO, u64::from(answer.refusal));
     next(head.months as u64);
     next(head.opening as u64);
     next(head.sizes as u64);
     next(head.income as u64);
-    end_with_numbers(row);
+    end_with(row);
 }
 
 pub fn write_plan(room: usize, sheet: &[u8]) {
@@ -53,9 +52,9 @@ pub fn write_plan(room: usize, sheet: &[u8]) {
 
 fn write_into(sheet: &[u8], plan: &mut [u8]) {
     let answer = sheet_plan::write_plan(sheet, plan);
-    io::print_decimal(STDOUT_FILENO, answer.refusal as u64);
+    io::print_decimal(STDOUT_FILENO, u64::from(answer.refusal));
     next(answer.length as u64);
-    end_with_bytes(plan);
+    end_with(plan);
 }
 
 // The reserve report of the sheet's plan.
@@ -66,7 +65,7 @@ pub fn report(sheet: &[u8]) {
     let n = answer.length;
     if refusal != 0 {
         io::write_all(STDOUT_FILENO, b"refused");
-        next(refusal as u64);
+        next(u64::from(refusal));
         end();
     } else {
         print_report(&plan[..n]);
@@ -79,20 +78,9 @@ fn print_report(plan: &[u8]) {
     io::write_all(STDOUT_FILENO, &text[..n]);
 }
 
-fn end_with_numbers(row: &[u32]) {
-    let mut i = 0;
-    while i < row.len() {
-        next(wide(row[i]));
-        i += 1;
-    }
-    end();
-}
-
-fn end_with_bytes(bytes: &[u8]) {
-    let mut i = 0;
-    while i < bytes.len() {
-        next(index(bytes[i]) as u64);
-        i += 1;
+fn end_with<T: Copy + Into<u64>>(numbers: &[T]) {
+    for x in numbers {
+        next((*x).into());
     }
     end();
 }

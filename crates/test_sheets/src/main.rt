@@ -11,14 +11,12 @@ const STDIN_FILENO: i32 = 0;
 
 const STDOUT_FILENO: i32 = 1;
 
-// A proved loop has to end, and nothing says that the input does, so the calls are counted down.
+// A proved loop has to end, and nothing says that the input does, so the calls are counted.
 fn main() {
-    let mut left = u64::MAX;
-    while left > 0 {
+    for _ in 0..u64::MAX {
         if !next_call() {
             return;
         }
-        left -= 1;
     }
 }
 

@@ -5,8 +5,7 @@
 ghost use Rattle.std.specs.Prelude.{◌≡◌};
 ghost use Rattle.test_tables.specs.Rounded.{ten_thousandths};
 
-use model::{Ask, Head, Question, limits};
-use numbers::big_endian;
+use model::{Ask, Head, Question, SCALE, limits};
 use plan::lengths::row_length;
 use rooms::blank_row;
 
@@ -30,7 +29,7 @@ fn next_plan() -> bool {
     if io::read_full(STDIN_FILENO, &mut size) < 2 {
         return false;
     }
-    let length = big_endian(&size, 0, 2);
+    let length = usize::from(u16::from_be_bytes(size));
     let mut bytes = io::buffer();
     if bytes.len() < length {
         return false;
@@ -62,8 +61,10 @@ fn print_survival(head: Head, row: &[u32]) {
 }
 
 // Parts of the scale in ten-thousandths, to the nearest.
+#[tactic(auto, unfolding(crate::specs::Rounded::ten_thousandths, model::specs::Scale::S))]
 fn rounded(x: u32) -> u64
     ensures { result ≡ ten_thousandths x }
 {
-    (x as u64 * 10000 + model::SCALE as u64 / 2) / model::SCALE as u64
+    let scale = u64::from(SCALE);
+    (u64::from(x) * 10000 + scale / 2) / scale
 }

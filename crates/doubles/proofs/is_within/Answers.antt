@@ -13,9 +13,9 @@ returns-then-x c =
     let tested : le (of_bits binary64 0) x ≡ true = c.if-x.true in
     ap (le x) literal_one ∙ ap (λ t. t && le x one) (sym tested ∙ ap (λ z. le z x) literal_zero)
 
-pub returns : goal.returns
+pub returns-else-x : goal.returns-else-x
 unfolding within
-returns c =
+returns-else-x c =
     let x = c.args.x in
     let tested : le (of_bits binary64 0) x ≡ false = c.if-x.false in
-    ap (λ t. t && le x one) (sym tested ∙ ap (λ z. le z x) literal_zero)
+    tested ∙ ap (λ t. t && le x one) (sym tested ∙ ap (λ z. le z x) literal_zero)

@@ -2,17 +2,16 @@
 use mathlib.Core.Path.{◌≡◌, sym, ap, ◌∙◌}
 use mathlib.Core.Bool.{not, ◌&&◌, ◌||◌, cond}
 use native.Mathlib.Omega.{arith}
-use lib.Dec.{eqb}
 use lib.Ieee.{lt, ne}
 use lib.Ieee.Scale.{finite}
 use Rattle.model.specs.Sums.{one_to, any}
 use Rattle.model.specs.Refusal.{first}
 use Rattle.model.proofs.Facts.{head_facts}
 use Rattle.doubles.specs.Doubles.{nought, one, within}
-use Rattle.sheet_values.specs.Sheet.{number_at, sheet_head}
+use Rattle.sheet_values.specs.Sheet.{step_of, sheet_head}
 use Rattle.sheet_values.specs.Rules.{chance}
-use Rattle.sheet_checks.specs.Refusal.{rule_checks}
-use Rattle.sheet_checks.proofs.CheckLaws.{finite_test, alpha_test, step_test, chance_test, rules_first}
+use Rattle.sheet_checks.specs.Refusal.{is_level, rule_checks}
+use Rattle.sheet_checks.proofs.CheckLaws.{finite_test, alpha_test, step_test, chance_test, is_level_kind, rules_first}
 use Rattle.sheet_checks.proofs.rule_refusal.Goals as goal
 use Rattle.sheet_checks.proofs.rule_refusal.Goals.{After-all_finite, After-alpha_outside, After-level_steps, After-some_outside, Else-alpha_outside, Else-level_steps, Else-not-all_finite}
 
@@ -53,11 +52,13 @@ alpha-passed :
 alpha-passed c before alpha = before ∙ rw (alpha ∙ c.if-alpha_outside.false)
 
 step_is : (c : After-level_steps) → step_test c.args.bytes.now ≡ c.level_steps.result
-unfolding number_at
 step_is c =
-    let kind = c.big_endian-kind.ensures.number in
+    let sheet = c.sheet_of-sheet.ensures in
     let step = c.double-step.ensures in
-    sym (c.level_steps.ensures ∙ (λ i. eqb (kind i) 1 && ne (step i) nought))
+    sym
+    (c.level_steps.ensures
+    ∙ (λ i. is_level (sheet i).rule && ne (step i) nought)
+    ∙ ap (λ b. b && ne (step_of c.args.bytes.now) nought) (is_level_kind c.args.bytes.now))
 
 pub returns-then-level_steps : goal.returns-then-level_steps
 returns-then-level_steps c =

@@ -1,6 +1,5 @@
 -- `rules::put_chances` meets its contract: the row fills with the parts of the chances.
-use Prim.Native.Nat.{suc, ◌-◌}
-use lib.ListN.{length}
+use Prim.Native.Nat.{suc}
 use Rattle.model.proofs.Filling.{Filling}
 use Rattle.doubles.specs.Doubles.{parts}
 use Rattle.sheet_values.specs.Rules.{chance as Rules·chance}
@@ -8,6 +7,3 @@ use Rattle.sheet_values.proofs.rules.put_chances.Given as goal
 
 abbrev pub invariant-loop-i : goal.invariant-loop-i
 invariant-loop-i l = Filling (λ k. parts (Rules·chance l.rule (suc k))) l.initial.row l.row l.i
-
-abbrev pub decreases-loop-i : goal.decreases-loop-i
-decreases-loop-i l = length l.row - l.i
