@@ -7,10 +7,12 @@ use Prim.Native.Nat.{ℕ, zero, suc, ◌+◌, ◌-◌, ◌≤◌, zero-le, ◌<�
 use native.Mathlib.Nat.{le_refl, le_trans, le_of_suc-le-suc, sub-add_cancel}
 use native.Mathlib.Numerals.{add-one}
 use native.Mathlib.Omega.{arith}
-use lib.Dec.{leb}
-use borrow.Author.Tests.{leb-false, le-leb, lt-leb, lt-ltb}
-use lib.ListN.{length, get_or, take, drop, set, length-append, length-set, length-take, length-drop, drop_of_length-le}
-use lib.Seq.{take_all, drop-cons, take-suc-set, get_or-take}
+use lib.Dec.{leb, eqb-suc-zero}
+use Rattle.std.proofs.Common.{not, eqb, ltb}
+use Rattle.std.specs.List.{prefix_len}
+use borrow.Author.Tests.{leb-false, le-leb, lt-leb, lt-ltb, le-ltb}
+use lib.ListN.{length, get_or, take, drop, set, length-append, length-set, length-take, length-drop}
+use lib.Seq.{take_all, take-suc-set, get_or-take}
 use Rattle.model.specs.Limits.{max_sizes}
 use Rattle.model.specs.Plan.{nth}
 use Rattle.model.specs.FilledSizes.{filled_sizes}
@@ -58,33 +60,19 @@ range_of_range n m (x ∷ xs) l = go (leb x m) refl (range_of_range n m xs l)
     go true e h = refl
     go false e h = let beyond = leb-false x m e in h ∙ sym (range_pass n x xs (omega arith))
 
--- the search for the first number within a bound
-pub record Searching (sizes : List ℕ) (from most k : ℕ) : Type 0 where
-  pub inside : k ≤ length sizes
-  pub passed : in_range most (drop k sizes) ≡ in_range most (drop from sizes)
+one_more : (n : ℕ) → 1 + n ≡ suc n
+one_more n = omega arith
 
-pub searching_turn :
-    (sizes : List ℕ) (from most k : ℕ) → k < length sizes → most < get_or sizes k 0 → Searching sizes from most k → Searching sizes from most (k + 1)
-searching_turn sizes from most k l m h =
-    record {
-      inside = omega arith;
-      passed = rw (add-one, ← range_pass most (get_or sizes k 0) (drop (suc k) sizes) m, ← drop-cons sizes k 0 l) h.passed;
-    }
-
-pub searching_found :
-    (sizes : List ℕ) (from most k : ℕ) → k < length sizes → get_or sizes k 0 ≤ most → Searching sizes from most k → drop k sizes ≡ in_range most (drop from sizes)
-searching_found sizes from most k l m h =
-    drop-cons sizes k 0 l
-    ∙ sym (range_keep most (get_or sizes k 0) (drop (suc k) sizes) m)
-    ∙ ap (in_range most) (sym (drop-cons sizes k 0 l))
-    ∙ h.passed
-
-pub searching_none :
-    (sizes : List ℕ) (from most k : ℕ) → length sizes ≤ k → Searching sizes from most k → drop k sizes ≡ in_range most (drop from sizes)
+-- past the numbers at the front that lie beyond a bound
+pub in_range_is : (most : ℕ) (xs : List ℕ) → drop (prefix_len (λ x. ltb most x) xs) xs ≡ in_range most xs
 unfolding in_range
-searching_none sizes from most k l h =
-    let none : drop k sizes ≡ [] = drop_of_length-le sizes {i = k} l in
-    none ∙ ap (in_range most) (sym none) ∙ h.passed
+in_range_is most [] = refl
+in_range_is most (x ∷ xs) =
+    let past : ℕ = prefix_len (λ x. ltb most x) xs in
+    ⊎_elim
+    (λ l. rw (lt-ltb most x l, lt-leb x most l) (ap (λ (k : ℕ). drop k (x ∷ xs)) (one_more past) ∙ in_range_is most xs))
+    (λ l. rw (le-ltb most x l, le-leb x most l) refl)
+    (below_or_not most x)
 
 empty : (xs : List ℕ) → length xs ≡ 0 → xs ≡ []
 empty [] e = refl
@@ -95,17 +83,11 @@ positive zero n = absurd (n refl)
 positive (suc w) n = omega arith
 
 -- the sizes before the first gap
-pub gapless_more : (F : List ℕ) (x : ℕ) → x < length F → ¬ (get_or F x 0 ≡ 0) → gapless (drop x F) ≡ 1 + gapless (drop (x + 1) F)
+pub gapless_is : (F : List ℕ) → length (take (prefix_len (λ f. not (eqb f 0)) F) F) ≡ gapless F
 unfolding gapless
-gapless_more F x l w = rw (add-one, drop-cons F x 0 l, lt-ltb 0 (get_or F x 0) (positive (get_or F x 0) w)) (omega arith)
-
-pub gapless_stop : (F : List ℕ) (x : ℕ) → x < length F → get_or F x 0 ≡ 0 → gapless (drop x F) ≡ 0
-unfolding gapless
-gapless_stop F x l e = rw (drop-cons F x 0 l, e)
-
-pub gapless_end : (F : List ℕ) (x : ℕ) → length F ≤ x → gapless (drop x F) ≡ 0
-unfolding gapless
-gapless_end F x l = rw (drop_of_length-le F {i = x} l)
+gapless_is [] = refl
+gapless_is (zero ∷ F) = refl
+gapless_is (suc f ∷ F) = rw (lt-ltb 0 (suc f) (omega arith), eqb-suc-zero f) (ap (λ (k : ℕ). length (take k (suc f ∷ F))) (one_more (prefix_len (λ f. not (eqb f 0)) F)) ∙ ap suc (gapless_is F))
 
 pub gapless_le : (F : List ℕ) → gapless F ≤ length F
 unfolding gapless
@@ -130,36 +112,32 @@ pub record Listed (F sizes : List ℕ) (count x : ℕ) : Type 0 where
   pub whole : take count sizes ++ filled_sizes F x ≡ filled_sizes F (length F)
 
 pub listed_filled :
-    (F sizes next : List ℕ) (count x more : ℕ) → length F ≤ max_sizes → 0 < x → ¬ (get_or F (x - 1) 0 ≡ 0) → next ≡ set sizes count x → more ≡ count + 1 →
-    Listed F sizes count x → Listed F next more (x - 1)
+    (F sizes : List ℕ) (count x : ℕ) → length F ≤ max_sizes → 0 < x → ¬ (get_or F (x - 1) 0 ≡ 0) →
+    Listed F sizes count x → Listed F (set sizes count (x - 1 + 1)) (count + 1) (x - 1)
 unfolding nth
-listed_filled F sizes next count x more small l w en em h =
+listed_filled F sizes count x small l w h =
     let here : suc (x - 1) ≡ x = omega arith in
+    let same : x - 1 + 1 ≡ x = omega arith in
     let front : take (count + 1) (set sizes count x) ≡ take count sizes ++ (x ∷ []) =
     rw add-one (take-suc-set sizes count x (omega (arith, h.room, h.fits))) in
     let longer : filled_sizes F x ≡ x ∷ filled_sizes F (x - 1) = rw here at (filled_more F (x - 1) (positive (get_or F (x - 1) 0) w)) in
     record {
-      room = rw en (length-set sizes count x ∙ h.room);
+      room = length-set sizes count (x - 1 + 1) ∙ h.room;
       fits = omega (arith, h.fits);
-      whole = rw (en, em, front, append_assoc (take count sizes) (x ∷ []) (filled_sizes F (x - 1)), ← longer) h.whole;
+      whole = rw (same, front, append_assoc (take count sizes) (x ∷ []) (filled_sizes F (x - 1)), ← longer) h.whole;
     }
 
 pub listed_empty :
-    (F sizes next : List ℕ) (count x more : ℕ) → 0 < x → get_or F (x - 1) 0 ≡ 0 → next ≡ sizes → more ≡ count →
-    Listed F sizes count x → Listed F next more (x - 1)
+    (F sizes : List ℕ) (count x : ℕ) → 0 < x → get_or F (x - 1) 0 ≡ 0 → Listed F sizes count x → Listed F sizes count (x - 1)
 unfolding nth
-listed_empty F sizes next count x more l e en em h =
+listed_empty F sizes count x l e h =
     let here : suc (x - 1) ≡ x = omega arith in
     let same : filled_sizes F x ≡ filled_sizes F (x - 1) = rw here at (filled_same F (x - 1) e) in
     record {
-      room = rw en h.room;
+      room = h.room;
       fits = omega (arith, h.fits);
-      whole = rw (en, em, ← same) h.whole;
+      whole = rw (← same) h.whole;
     }
-
-pub listed_end :
-    (F sizes : List ℕ) (count x dense : ℕ) → x ≤ dense → dense ≤ x → Listed F sizes count x → take count sizes ++ filled_sizes F dense ≡ filled_sizes F (length F)
-listed_end F sizes count x dense l m h = let here : x ≡ dense = omega arith in rw here at h.whole
 
 -- numbers that all lie within a bound, after others
 range_append : (most : ℕ) (xs ys : List ℕ) → in_range most ys ≡ ys → in_range most (xs ++ ys) ≡ in_range most xs ++ ys

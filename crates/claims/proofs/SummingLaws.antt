@@ -1,5 +1,5 @@
 -- Laws of the claim sum as the loops go through it: the sizes listed one by one, and then those without a gap.
-use mathlib.Core.Path.{◌≡◌, sym, ◌∙◌, ap}
+use mathlib.Core.Path.{◌≡◌, refl, sym, ◌∙◌, ap}
 use mathlib.Core.List.{List, ◌++◌, map, map-append}
 use Prim.Native.Nat.{ℕ, zero, suc, ◌+◌, ◌*◌, ◌-◌, ◌≤◌, ◌<◌, min}
 use native.Mathlib.Nat.{zero-mul}
@@ -18,51 +18,32 @@ use Rattle.model.proofs.FilledLaws.{filled_total, filled_sum_is, filled_inside, 
 use Rattle.claims.specs.Values.{from_top, Parts}
 use Rattle.claims.specs.Listing.{sum_term, SizesIn, NoGap, ListsRange}
 
--- a weight and a value read one place before their size
-pub product_read :
-    (F after : List ℕ) (x weight value : ℕ) → 0 < x → weight ≡ get_or F (x - 1) 0 → value ≡ get_or after (x - 1) 0 → weight * value ≡ sum_term F after x
+-- The loop over the listed sizes: the sum over the rest is the next product and the sum over those after it.
+pub listed_next :
+    (F after sizes : List ℕ) (k : ℕ) → k < length sizes → 0 < get_or sizes k 0 → let place = get_or sizes k 0 - 1 in
+    total (map (sum_term F after) (drop k sizes)) ≡ get_or F place 0 * get_or after place 0 + total (map (sum_term F after) (drop (k + 1) sizes))
+unfolding nth total
+listed_next F after sizes k l p =
+    let here : suc (get_or sizes k 0 - 1) ≡ get_or sizes k 0 = omega arith in
+    let first : sum_term F after (get_or sizes k 0) ≡ get_or F (get_or sizes k 0 - 1) 0 * get_or after (get_or sizes k 0 - 1) 0 = ap (sum_term F after) (sym here) in
+    rw (add-one, drop-cons sizes k 0 l) (ap (λ (n : ℕ). n + total (map (sum_term F after) (drop (suc k) sizes))) first)
+
+pub listed_none : (f : ℕ → ℕ) (sizes : List ℕ) (k : ℕ) → length sizes ≤ k → total (map f (drop k sizes)) ≡ 0
+unfolding total
+listed_none f sizes k l = rw (drop_of_length-le sizes {i = k} l)
+
+-- The loop over the sizes from `most` down: the sum over the first x is the last product and the sum over those below.
+pub dense_next :
+    (F after : List ℕ) (x : ℕ) → 0 < x → sum x (sum_term F after) ≡ get_or F (x - 1) 0 * get_or after (x - 1) 0 + sum (x - 1) (sum_term F after)
 unfolding nth
-product_read F after zero weight value l ew ev = absurd (omega arith)
-product_read F after (suc x) weight value l ew ev = let here : suc x - 1 ≡ x = omega arith in rw (ew, ev, here)
-
--- The loop over the listed sizes: the sum so far and the sum over the rest are the whole.
-pub record ListSumming (f : ℕ → ℕ) (sizes : List ℕ) (sum k : ℕ) : Type 0 where
-  pub within : k ≤ length sizes
-  pub whole : sum + total (map f (drop k sizes)) ≡ total (map f sizes)
-
-pub list_summing_turn :
-    (f : ℕ → ℕ) (sizes : List ℕ) (sum k term : ℕ) → k < length sizes → term ≡ f (get_or sizes k 0) → ListSumming f sizes sum k →
-    (sum + term ≤ total (map f sizes)) × ListSumming f sizes (sum + term) (k + 1)
-unfolding total
-list_summing_turn f sizes sum k term l e h =
-    let more : total (map f (drop k sizes)) ≡ term + total (map f (drop (k + 1) sizes)) = rw (add-one, e, drop-cons sizes k 0 l) in
-    (omega (arith, more, h.whole), record { within = omega arith; whole = omega (arith, more, h.whole) })
-
-pub list_summing_end :
-    (f : ℕ → ℕ) (sizes : List ℕ) (sum k : ℕ) → length sizes ≤ k → ListSumming f sizes sum k → (sum ≡ total (map f sizes)) × (k ≡ length sizes)
-unfolding total
-list_summing_end f sizes sum k l h =
-    let none : total (map f (drop k sizes)) ≡ 0 = rw (drop_of_length-le sizes {i = k} l) in
-    (omega (arith, none, h.whole), omega (arith, h.within))
-
--- The loop over the sizes from `most` down: the sum so far and the sum over those below are the whole.
-pub record DownSumming (f : ℕ → ℕ) (most so_far products x : ℕ) : Type 0 where
-  pub passed : products + x ≡ most
-  pub whole : so_far + sum x f ≡ sum most f
-
-pub down_summing_turn :
-    (f : ℕ → ℕ) (most so_far products x term : ℕ) → 0 < x → term ≡ f (suc (x - 1)) → DownSumming f most so_far products x →
-    (so_far + term ≤ sum most f) × DownSumming f most (so_far + term) (products + 1) (x - 1)
-down_summing_turn f most so_far products x term l e h =
+dense_next F after x l =
     let here : suc (x - 1) ≡ x = omega arith in
-    let more : sum x f ≡ sum (x - 1) f + term = omega (arith, e, sum_last (x - 1) f, ap (λ (n : ℕ). sum n f) here) in
-    (omega (arith, more, h.whole), record { passed = omega (arith, h.passed); whole = omega (arith, more, h.whole) })
+    omega (arith, sum_last (x - 1) (sum_term F after), ap (λ (n : ℕ). sum n (sum_term F after)) here)
 
-pub down_summing_end :
-    (f : ℕ → ℕ) (most so_far products x : ℕ) → x ≤ 0 → DownSumming f most so_far products x → (so_far ≡ sum most f) × (products ≡ most)
+pub dense_none : (f : ℕ → ℕ) (x : ℕ) → x ≤ 0 → sum x f ≡ 0
 unfolding sum
-down_summing_end f most so_far products zero l h = (omega (arith, h.whole), omega (arith, h.passed))
-down_summing_end f most so_far products (suc x) l h = absurd (omega arith)
+dense_none f zero l = refl
+dense_none f (suc x) l = absurd (omega arith)
 
 -- The filled sizes of a range in two parts: those listed, and all of the sizes 1 to `low`.
 pub record Parted (F after sizes : List ℕ) (low : ℕ) : Type 0 where

@@ -10,17 +10,11 @@ use model::limits;
 fn gapless_sizes(severity: &[u32]) -> usize
     ensures { result ≡ gapless severity.now }
 {
-    let mut x = 0;
-    while x < severity.len() {
-        if severity[x] == 0 {
-            return x;
-        }
-        x += 1;
-    }
-    x
+    severity.iter().take_while(|f| **f != 0).count()
 }
 
 // The first `count` numbers are the listed sizes, the largest first; those up to `dense` are filled besides and not listed.
+// An array and its count, and no `Vec`: the engine has fixed memory and no heap.
 #[derive(Clone, Copy)]
 pub struct FilledSizes {
     pub sizes: [usize; limits::SIZES],
@@ -36,13 +30,11 @@ fn filled_above(severity: &[u32], dense: usize) -> FilledSizes
 {
     let mut sizes = [0; limits::SIZES];
     let mut count = 0;
-    let mut x = severity.len();
-    while dense < x {
-        if severity[x - 1] != 0 {
-            sizes[count] = x;
+    for x in (dense..severity.len()).rev() {
+        if severity[x] != 0 {
+            sizes[count] = x + 1;
             count += 1;
         }
-        x -= 1;
     }
     FilledSizes {
         sizes,
@@ -67,12 +59,5 @@ pub fn first_within(sizes: &[usize], from: usize, most: usize) -> usize
     ensures within { drop result sizes.now ≡ in_range most (drop from sizes.now) }
     ensures inside { result ≤ length sizes.now }
 {
-    let mut k = from;
-    while k < sizes.len() {
-        if sizes[k] <= most {
-            return k;
-        }
-        k += 1;
-    }
-    k
+    from + sizes[from..].iter().take_while(|x| most < **x).count()
 }

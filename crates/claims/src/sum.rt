@@ -1,5 +1,5 @@
 // The claim sum at a level, in plain machine arithmetic.
-ghost use Rattle.std.specs.Prelude.{◌≡◌, map, ◌+◌, ◌*◌, ◌/◌, ◌%◌, ◌<◌, ◌≤◌, min, length};
+ghost use Rattle.std.specs.Prelude.{◌≡◌, map, ◌+◌, ◌*◌, ◌/◌, ◌%◌, ◌^◌, ◌<◌, ◌≤◌, min, length};
 ghost use Rattle.model.specs.Scale.{S};
 ghost use Rattle.model.specs.Sums.{sum, total};
 ghost use Rattle.model.specs.FilledSizes.{filled_sum, filled_count};
@@ -7,7 +7,6 @@ ghost use Rattle.claims.specs.Listing.{sum_term, SizesIn, NoGap, ListsRange};
 ghost use Rattle.claims.specs.Values.{from_top, Parts};
 
 use model::WIDE_SCALE;
-use numbers::{lesser, wide};
 
 // The claim sum by its quotient by S and what is left over, and how many products of weights and values were added.
 #[derive(Clone, Copy)]
@@ -17,11 +16,26 @@ pub struct ClaimSum {
     pub products: usize,
 }
 
-// Products added, and how many.
+// Products of weights and values added, and how many.
 #[derive(Clone, Copy)]
 struct ProductSum {
     sum: u64,
     products: usize,
+}
+
+impl ProductSum {
+    // One product more, counted where it is added: `claim_sum` promises their number (`products`).
+    fn plus(self, weight: u32, value: u32) -> ProductSum
+        requires fits { self.sum + weight * value < 2 ^ 64 }
+        requires more { self.products + 1 < 2 ^ 64 }
+        ensures sum { result.sum ≡ self.sum + weight * value }
+        ensures products { result.products ≡ self.products + 1 }
+    {
+        ProductSum {
+            sum: self.sum + u64::from(weight) * u64::from(value),
+            products: self.products + 1,
+        }
+    }
 }
 
 // Over the listed sizes, in their order.
@@ -31,14 +45,15 @@ fn listed_sum(severity: &[u32], sizes: &[usize], after: &[u32]) -> ProductSum
     ensures sum { result.sum ≡ total (map (sum_term severity.now after.now) sizes.now) }
     ensures products { result.products ≡ length sizes.now }
 {
-    let mut sum: u64 = 0;
-    let mut k = 0;
-    while k < sizes.len() {
-        let place = sizes[k] - 1;
-        sum += wide(severity[place]) * wide(after[place]);
-        k += 1;
+    let mut added = ProductSum {
+        sum: 0,
+        products: 0,
+    };
+    for x in sizes {
+        let place = *x - 1;
+        added = added.plus(severity[place], after[place]);
     }
-    ProductSum { sum, products: k }
+    added
 }
 
 // Over the sizes 1 to `most`, from the largest down.
@@ -48,15 +63,14 @@ fn dense_sum(severity: &[u32], after: &[u32], most: usize) -> ProductSum
     ensures sum { result.sum ≡ sum most (sum_term severity.now after.now) }
     ensures products { result.products ≡ most }
 {
-    let mut sum: u64 = 0;
-    let mut products = 0;
-    let mut x = most;
-    while 0 < x {
-        x -= 1;
-        sum += wide(severity[x]) * wide(after[x]);
-        products += 1;
+    let mut added = ProductSum {
+        sum: 0,
+        products: 0,
+    };
+    for x in (0..most).rev() {
+        added = added.plus(severity[x], after[x]);
     }
-    ProductSum { sum, products }
+    added
 }
 
 // The claim sum over the values that claims lead to, which lie one after the other, the last at level 1. Of the
@@ -70,8 +84,8 @@ pub fn claim_sum(severity: &[u32], sizes: &[usize], dense: usize, after: &[u32])
     ensures remainder { result.remainder ≡ filled_sum severity.now (from_top (length after.now) after.now) (length after.now + 1) % S }
     ensures products { result.products ≡ filled_count severity.now (length after.now + 1) }
 {
-    let most = lesser(after.len(), severity.len());
-    let low = lesser(most, dense);
+    let most = after.len().min(severity.len());
+    let low = most.min(dense);
     let listed = listed_sum(severity, sizes, after);
     let rest = dense_sum(severity, after, low);
     let sum = listed.sum + rest.sum;

@@ -1,11 +1,11 @@
 -- Laws of rows in memory: a row rewritten in place, upward.
 use mathlib.Core.Path.{◌≡◌, refl, sym, ◌∙◌, ap}
-use mathlib.Core.List.{List, [], ◌∷◌, ◌++◌, append-nil}
+use mathlib.Core.List.{List, [], ◌∷◌}
 use Prim.Native.Nat.{ℕ, zero, suc, ◌+◌, ◌*◌, ◌-◌, ◌≤◌, zero-le, ◌<◌}
 use native.Mathlib.Nat.{le_refl, le_trans}
 use native.Mathlib.Omega.{arith}
 use borrow.Author.Count.{below_more}
-use lib.ListN.{length, get_or, take, drop, set, replicate, length-set, length-drop, drop_of_length-le}
+use lib.ListN.{length, get_or, take, drop, set, length-set, length-drop}
 use lib.Seq.{length-take-le, get_or-take, get_or-drop, get_or-set_same, get_or-set_other}
 use Rattle.model.specs.declared.Head.{Head}
 use Rattle.model.specs.declared.Rounding.{Rounding}
@@ -61,17 +61,6 @@ chances_parts h row f months = parts_part row 0 months (record { each = f.number
 
 pub length_part : (xs : List ℕ) (from to : ℕ) → from ≤ to → to ≤ length xs → length (take (to - from) (drop from xs)) ≡ to - from
 length_part xs from to l m = length-take-le (to - from) (drop from xs) (omega (arith, length-drop from xs))
-
--- a part while it is filled
-pub record FilledTo (old : List ℕ) (value : ℕ) (part : List ℕ) (k : ℕ) : Type 0 where
-  pub within : k ≤ length old
-  pub same_length : length part ≡ length old
-  pub so_far : part ≡ replicate k value ++ drop k old
-
-pub filled_to_end : (old : List ℕ) (value : ℕ) (part : List ℕ) (k : ℕ) → length part ≤ k → FilledTo old value part k → part ≡ replicate (length old) value
-filled_to_end old value part k l h =
-    let all : k ≡ length old = omega (arith, h.within, h.same_length) in
-    h.so_far ∙ rw (all, drop_of_length-le old {i = length old} (le_refl (length old)), append-nil)
 
 -- The rows while one of them goes back, upward from its first place at `from`: the first i places are new, the rest is old.
 pub record Rewriting (old : List ℕ) (from : ℕ) (new : Row) (rows : List ℕ) (i : ℕ) : Type 0 where

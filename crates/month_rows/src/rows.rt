@@ -9,7 +9,6 @@ ghost use Rattle.month_rows.specs.Shapes.{row_with, values_in, RowsIn, TopIn, al
 use claims::sizes::first_within;
 use claims::sum::claim_sum;
 use model::Rounding;
-use numbers::{difference, lesser};
 use rounding::month_value;
 
 // What a question on a plan asks of the rows: how many there are, the places of each, the income of a month, whether the rows are told apart by the
@@ -27,11 +26,7 @@ pub struct Shape {
 pub fn fill(part: &mut [u32], value: u32)
     ensures { part.new ≡ replicate (length part.old) value }
 {
-    let mut k = 0;
-    while k < part.len() {
-        part[k] = value;
-        k += 1;
-    }
+    part.fill(value);
 }
 
 // A row's value at a level, where place 0 holds the level `top`.
@@ -67,10 +62,9 @@ pub fn row_back(
 {
     let end = claimed + top;
     let mut first = 0;
-    let mut i = 0;
-    while i < live {
+    for i in 0..live {
         let next = claimed + i + 1;
-        let most = lesser(end - next, severity.len());
+        let most = (end - next).min(severity.len());
         first = first_within(sizes, first, most);
         let claims = claim_sum(severity, &sizes[first..], dense, &rows[next..end]);
         let place = quiet + i;
@@ -81,7 +75,6 @@ pub fn row_back(
             claims.remainder,
             round,
         );
-        i += 1;
     }
 }
 
@@ -89,10 +82,10 @@ pub fn row_back(
 fn forbid(row: &mut [u32], first: usize, last: usize)
     ensures { at row.new ≡ kept (between first last) (at row.old) }
 {
-    let low = lesser(first, row.len());
-    fill(&mut row[..low], 0);
-    let high = lesser(last, row.len());
-    fill(&mut row[high..], 0);
+    let low = first.min(row.len());
+    row[..low].fill(0);
+    let high = last.min(row.len());
+    row[high..].fill(0);
 }
 
 // Sets the forbidden levels of each row to 0, where place 0 holds the level `top`.
@@ -102,16 +95,12 @@ pub fn forbid_rows(rows: &mut [u32], shape: Shape, top: usize)
         at (row_with shape rows.new k) i ≡ kept (allowed_places shape top) (at (row_with shape rows.old k)) i }
     ensures parts { Parts rows.new }
 {
-    let count = shape.rows;
     let width = shape.width;
-    let first = difference(top + 1, shape.above);
-    let last = difference(top + 1, shape.low);
-    let mut j = 0;
-    while j < count {
+    let first = (top + 1).saturating_sub(shape.above);
+    let last = (top + 1).saturating_sub(shape.low);
+    for j in 0..shape.rows {
         let start = j * width;
-        let end = start + width;
-        forbid(&mut rows[start..end], first, last);
-        j += 1;
+        forbid(&mut rows[start..start + width], first, last);
     }
 }
 
@@ -150,14 +139,12 @@ pub fn all_rows_back(
     let income = shape.income;
     let live = top + 1 - income;
     let last = shape.rows - 1;
-    let mut j = 0;
-    while j < last {
+    for j in 0..last {
         let start = j * width;
         let next = start + width;
         row_back(
             rows, start, next, top, live, severity, sizes, dense, chance, round,
         );
-        j += 1;
     }
     let start = last * width;
     let own = own_sizes(tallied, severity.len());

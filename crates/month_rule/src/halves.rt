@@ -12,7 +12,7 @@ ghost use Rattle.month_rows.specs.Shapes.{rows_size, values_in};
 use crate::months::all_months_back;
 use claims::sizes::list_sizes;
 use model::{Bounds, Rounding};
-use month_rows::rows::{Shape, fill};
+use month_rows::rows::Shape;
 
 // The rows after the last month in one half: S with no claims left, and 0 otherwise.
 fn last_rows(rows: &mut [u32], shape: Shape)
@@ -21,8 +21,8 @@ fn last_rows(rows: &mut [u32], shape: Shape)
     ensures parts { Parts rows.new }
 {
     let start = (shape.rows - 1) * shape.width;
-    fill(rows, 0);
-    fill(&mut rows[start..], model::SCALE);
+    rows.fill(0);
+    rows[start..].fill(model::SCALE);
 }
 
 // The same in both halves.
@@ -115,6 +115,6 @@ pub fn take_bounds(halves: &mut [u32], half: usize) -> Bounds
 {
     let lower = halves[0];
     let upper = halves[half];
-    fill(halves, 0);
+    halves.fill(0);
     Bounds { lower, upper }
 }

@@ -6,7 +6,7 @@ ghost use Rattle.model.specs.Scale.{S, quotient};
 
 use model::{Rounding, WIDE_SCALE};
 
-// A quotient by the scale.
+// A quotient by the scale. A cast narrows it: it is proved to fit, and `TryFrom` would add an error that never comes.
 pub fn divide(x: u64, round: Rounding) -> u32
     requires { x ≤ S * S }
     ensures { result ≡ quotient round x S }
@@ -22,7 +22,7 @@ fn weighted_sum(chance: u32, otherwise: u64, then: u64) -> u64
     requires { (chance ≤ S) × (otherwise ≤ S) × (then ≤ S) }
     ensures { result ≡ (S - chance) * otherwise + chance * then }
 {
-    let p = chance as u64;
+    let p = u64::from(chance);
     (WIDE_SCALE - p) * otherwise + p * then
 }
 
@@ -31,7 +31,10 @@ pub fn mixture(chance: u32, otherwise: u32, then: u32, round: Rounding) -> u32
     requires { (chance ≤ S) × (otherwise ≤ S) × (then ≤ S) }
     ensures { result ≡ quotient round ((S - chance) * otherwise + chance * then) S }
 {
-    divide(weighted_sum(chance, otherwise as u64, then as u64), round)
+    divide(
+        weighted_sum(chance, u64::from(otherwise), u64::from(then)),
+        round,
+    )
 }
 
 // The value before a month with this chance, from the value with no claim and the claim sum's quotient by the scale and what is left over: rounded once,
@@ -40,7 +43,10 @@ pub fn month_value(chance: u32, quiet: u32, claimed: u64, left: u64, round: Roun
     requires { (chance ≤ S) × (quiet ≤ S) × (claimed * S + left ≤ S * S) × (left < S) }
     ensures { result ≡ quotient round ((S - chance) * S * quiet + chance * (claimed * S + left)) (S * S) }
 {
-    let p = chance as u64;
-    let carried = divide(p * left, round) as u64;
-    divide(weighted_sum(chance, quiet as u64, claimed) + carried, round)
+    let p = u64::from(chance);
+    let carried = u64::from(divide(p * left, round));
+    divide(
+        weighted_sum(chance, u64::from(quiet), claimed) + carried,
+        round,
+    )
 }

@@ -1,12 +1,12 @@
 -- Laws of the row before a month that may ruin: its weights summed, and its values.
 use mathlib.Core.Path.{◌≡◌, sym, ap, ◌∙◌}
-use mathlib.Core.List.{List, ◌++◌}
-use Prim.Native.Nat.{ℕ, ◌+◌, ◌*◌, ◌-◌, ◌≤◌, ◌<◌}
+use mathlib.Core.List.{List, [], ◌∷◌, ◌++◌}
+use Prim.Native.Nat.{ℕ, ◌+◌, ◌*◌, ◌-◌, ◌≤◌}
 use native.Mathlib.Nat.{mul-le-mul}
-use native.Mathlib.Numerals.{add-one}
 use native.Mathlib.Omega.{arith}
-use lib.ListN.{length, get_or, take, drop, replicate, length-replicate, replicate-append-replicate, drop_of_length-le}
-use lib.Seq.{drop-cons, take_at, drop_at}
+use lib.ListN.{take, drop, replicate, length-replicate, replicate-append-replicate}
+use lib.Seq.{take_at, drop_at}
+use Rattle.std.specs.List.{fold, sum_by}
 use Rattle.model.specs.declared.Rounding.{Rounding}
 use Rattle.model.specs.Scale.{S, quotient}
 use Rattle.model.specs.Sums.{total}
@@ -15,28 +15,20 @@ use Rattle.model.proofs.SumLaws.{total_drop_le}
 use Rattle.model.proofs.FirstRuin.{ruin_weight_fits, ruin_row_fits}
 use Rattle.ruin_rows.specs.Terms.{RuinTerms}
 
--- the weight so far and the sizes that are left are the whole
-abbrev pub Weighing : List ℕ → ℕ → ℕ → ℕ → ℕ → Type 0
-Weighing F tail level weight x = weight + total (drop x F) ≡ ruin_weight F tail level
-
-pub weighing_start : (F : List ℕ) (tail level x : ℕ) → x ≡ level - 1 → Weighing F tail level tail x
-unfolding ruin_weight
-weighing_start F tail level x e = omega (arith, ap (λ (n : ℕ). total (drop n F)) e)
-
--- a size more, and the sum fits
-pub weighing_turn :
-    (F : List ℕ) (tail level weight x f : ℕ) → total F + tail ≤ S → x < length F → Weighing F tail level weight x → f ≡ get_or F x 0 →
-    (weight + f ≤ S) × Weighing F tail level (weight + f) (x + 1)
-unfolding ruin_weight total
-weighing_turn F tail level weight x f fits l h e =
-    let next : total (drop x F) ≡ get_or F x 0 + total (drop (x + 1) F) = rw add-one (ap total (drop-cons F x 0 l)) in
-    (omega (arith, total_drop_le (level - 1) F), omega arith)
-
-pub weighing_end : (F : List ℕ) (tail level weight x : ℕ) → length F ≤ x → Weighing F tail level weight x → weight ≡ ruin_weight F tail level
+-- the weights of a list, as they are summed one after the other
+summed : (start : ℕ) (F : List ℕ) → fold (λ a f. a + f) start F ≡ start + total F
 unfolding total
-weighing_end F tail level weight x l h =
-    let none : total (drop x F) ≡ 0 = ap total (drop_of_length-le F {i = x} l) in
-    omega arith
+summed start [] = omega arith
+summed start (f ∷ F) = let rest = summed (start + f) F in omega (arith, rest)
+
+-- those from a size on fit, and with the tail they are the weight that ruins
+pub listed_fits : (F : List ℕ) (tail from : ℕ) → total F + tail ≤ S → tail + sum_by (λ (f : ℕ). f) (drop from F) ≤ S
+listed_fits F tail from fits = omega (arith, summed 0 (drop from F), total_drop_le from F)
+
+pub weight_is :
+    (F : List ℕ) (tail level from listed : ℕ) → from ≡ level - 1 → listed ≡ sum_by (λ (f : ℕ). f) (drop from F) → tail + listed ≡ ruin_weight F tail level
+unfolding ruin_weight
+weight_is F tail level from listed ef e = omega (arith, summed 0 (drop from F), ap (λ (n : ℕ). total (drop n F)) ef)
 
 -- the row's values by their places, from the level `top` at place 0
 abbrev pub ruin_places : Rounding → ℕ → List ℕ → ℕ → ℕ → ℕ → Row

@@ -11,8 +11,6 @@ ghost use Rattle.month_rows.specs.Rows.{Replaced};
 ghost use Rattle.ruin_rows.specs.Terms.{RuinTerms};
 
 use model::Rounding;
-use month_rows::rows::fill;
-use numbers::{difference, wide};
 use rounding::divide;
 
 // The weight of the claims that ruin at the level at which they come: of all sizes from that level on, and over.
@@ -20,13 +18,12 @@ pub fn ruin_weight(severity: &[u32], tail: u32, level: usize) -> u64
     requires { total severity.now + tail ≤ S }
     ensures { result ≡ ruin_weight severity.now tail level }
 {
-    let mut weight = tail as u64;
-    let mut x = difference(level, 1);
-    while x < severity.len() {
-        weight += wide(severity[x]);
-        x += 1;
-    }
-    weight
+    let listed: u64 = severity
+        .iter()
+        .skip(level.saturating_sub(1))
+        .map(|f| u64::from(*f))
+        .sum();
+    u64::from(tail) + listed
 }
 
 // The row before a month with this chance, from the level `top` at place 0 down to level 0.
@@ -44,11 +41,9 @@ fn ruin_row(
     ensures rewritten { Replaced 0 (top + 1) (λ i. ruin_row round income severity.now tail chance (top - i)) row.old row.new }
     ensures parts { Parts row.new }
 {
-    let mut i = 0;
-    while i <= top {
+    for i in 0..=top {
         let weight = ruin_weight(severity, tail, top - i + income);
-        row[i] = divide(wide(chance) * weight, round);
-        i += 1;
+        row[i] = divide(u64::from(chance) * weight, round);
     }
 }
 
@@ -68,7 +63,7 @@ pub fn ruin_halves(
     ensures upper { Replaced 0 (top + 1) (λ i. ruin_row Up income severity.now tail chance (top - i)) (replicate half 0) (drop half halves.new) }
     ensures parts { Parts halves.new }
 {
-    fill(halves, 0);
+    halves.fill(0);
     ruin_row(
         &mut halves[..half],
         top,

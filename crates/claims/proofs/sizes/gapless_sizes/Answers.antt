@@ -1,21 +1,15 @@
-use native.Mathlib.Nat.{zero-add}
-use Rattle.claims.proofs.ListingLaws.{gapless_more, gapless_stop, gapless_end}
-use native.Mathlib.Omega.{arith}
+-- `gapless_sizes` meets its contract: how many numbers stand before the first 0.
+use mathlib.Core.Path.{◌∙◌}
+use Rattle.std.proofs.Common.{rules, tests, not, eqb}
+use Rattle.std.proofs.lemmas.Iterator.{YieldsList-from_slice}
+use Rattle.std.proofs.lemmas.Iterator.Consumers.{count_from_yields_List}
+use Rattle.std.proofs.lemmas.Iterator.Search.{YieldsList-from_take_while}
+use Rattle.claims.proofs.ListingLaws.{gapless_is}
 use Rattle.claims.proofs.sizes.gapless_sizes.Goals as goal
-
-pub loop-x-init : goal.loop-x-init
-loop-x-init c = (omega arith, zero-add _)
-
-pub returns-then-severity-x-eq0 : goal.returns-then-severity-x-eq0
-returns-then-severity-x-eq0 c =
-    let stop = gapless_stop c.args.severity.now c.loop-x.x c.loop-x-test.true c.if-severity-x-eq0.true in
-    omega (arith, stop, c.loop-x.invariant.1)
-
-pub loop-x-preserved : goal.loop-x-preserved
-loop-x-preserved c =
-    let more = gapless_more c.args.severity.now c.loop-x.x c.loop-x-test.true c.if-severity-x-eq0.false in
-    (omega (arith, c.loop-x-test.true), omega (arith, more, c.loop-x.invariant.1))
 
 pub returns : goal.returns
 returns c =
-    omega (arith, gapless_end c.args.severity.now c.loop-x.x c.loop-x-test.false, c.loop-x.invariant.1)
+    let F = c.args.severity.now in
+    count_from_yields_List c.take_while.result _ c.count.ensures.ran
+    (YieldsList-from_take_while _ (λ f. not (eqb f 0)) (YieldsList-from_slice F cc) c.take_while.ensures.closure c.take_while.ensures.done (λ x b q k. search (rules, tests)))
+    ∙ gapless_is F

@@ -8,9 +8,6 @@ use Rattle.model.specs.FilledSizes.{filled_sizes}
 use Rattle.claims.proofs.ListingLaws.{gapless_le, listing_is}
 use Rattle.claims.proofs.sizes.list_sizes.Goals as goal
 
-pub gapless_sizes-dense-requires : goal.gapless_sizes-dense-requires
-gapless_sizes-dense-requires c = tt
-
 pub filled_above-requires : goal.filled_above-requires
 filled_above-requires c =
     (c.requires, omega (arith, c.gapless_sizes-dense.ensures, gapless_le c.args.severity.now))

@@ -1,77 +1,30 @@
-use Prim.Native.Nat.{◌+◌, ◌*◌, ◌<◌, ◌≤◌}
-use native.Mathlib.Nat.{zero-add, le_trans}
+use mathlib.Core.List.{map}
+use Prim.Native.Nat.{◌+◌, ◌*◌, ◌-◌}
 use native.Mathlib.Omega.{arith}
-use lib.ListN.{length, get_or}
+use mathlib.Core.Path.{◌≡◌}
+use lib.ListN.{get_or, drop}
 use Rattle.model.specs.Scale.{S}
+use Rattle.model.specs.Sums.{total}
 use Rattle.claims.specs.Listing.{sum_term}
-use Rattle.claims.proofs.SummingLaws.{product_read, ListSumming, list_summing_turn, list_summing_end}
+use Rattle.claims.proofs.SummingLaws.{listed_next, listed_none}
 use Rattle.claims.proofs.sum.listed_sum.Goals as goal
-use Rattle.claims.proofs.sum.listed_sum.Goals.{After-wide-in-loop-k, In-loop-k}
+use Rattle.claims.proofs.sum.listed_sum.Goals.{In-loop-x}
 
-pub loop-k-init : goal.loop-k-init
-loop-k-init c = record { within = omega arith; whole = zero-add _ }
-
--- a listed size has a weight and a value
-inside : (c : In-loop-k) → let a = c.args in let x = get_or a.sizes.now c.loop-k.k 0 in (0 < x) × (x ≤ length a.severity.now) × (x ≤ length a.after.now)
-inside c =
-    let listed = c.requires.sizes_in.each c.loop-k.k c.loop-k-test.true in
-    (listed.0, omega (arith, listed.1), omega (arith, listed.1))
-
-pub offset_bounds-sizes-k : goal.offset_bounds-sizes-k
-offset_bounds-sizes-k c = omega (arith, c.loop-k-test.true)
-
-pub bounds-sizes-k : goal.bounds-sizes-k
-bounds-sizes-k c = c.loop-k-test.true
-
-pub overflow_sub-place : goal.overflow_sub-place
-overflow_sub-place c = (inside (goal.at.overflow_sub-place c).In-loop-k).0
-
-pub offset_bounds-severity-place : goal.offset_bounds-severity-place
-offset_bounds-severity-place c = omega (arith, inside (goal.at.offset_bounds-severity-place c).In-loop-k)
-
-pub bounds-severity-place : goal.bounds-severity-place
-bounds-severity-place c = omega (arith, inside (goal.at.bounds-severity-place c).In-loop-k)
-
-pub wide-requires : goal.wide-requires
-wide-requires c = tt
-
-pub offset_bounds-after-place : goal.offset_bounds-after-place
-offset_bounds-after-place c = omega (arith, inside (goal.at.offset_bounds-after-place c).In-loop-k)
-
-pub bounds-after-place : goal.bounds-after-place
-bounds-after-place c = omega (arith, inside (goal.at.bounds-after-place c).In-loop-k)
-
-pub wide-requires-in-loop-k : goal.wide-requires-in-loop-k
-wide-requires-in-loop-k c = tt
-
--- the term that a turn adds
-added : (c : After-wide-in-loop-k) → let a = c.args in let sum = c.loop-k.sum + c.wide.result * c.wide-in-loop-k.result in (sum ≤ S * S) × ListSumming (sum_term a.severity.now a.after.now) a.sizes.now sum (c.loop-k.k + 1)
-added c =
-    let loop = c.loop-k in
+-- the product that a turn adds
+next : (c : In-loop-x) → let a = c.args in let place = get_or a.sizes.now c.loop-x.x-index 0 - 1 in total (map (sum_term a.severity.now a.after.now) (drop c.loop-x.x-index a.sizes.now)) ≡ get_or a.severity.now place 0 * get_or a.after.now place 0 + total (map (sum_term a.severity.now a.after.now) (drop (c.loop-x.x-index + 1) a.sizes.now))
+next c =
     let a = c.args in
-    let more =
-    list_summing_turn (sum_term a.severity.now a.after.now) a.sizes.now loop.sum loop.k _ c.loop-k-test.true
-    (product_read a.severity.now a.after.now _ _ _ (let inside : let a = c.args in let x = get_or a.sizes.now c.loop-k.k 0 in (0 < x) × (x ≤ length a.severity.now) × (x ≤ length a.after.now) = let listed = c.requires.sizes_in.each c.loop-k.k c.loop-k-test.true in
-    (listed.0, omega (arith, listed.1), omega (arith, listed.1)) in inside).0 c.wide.ensures c.wide-in-loop-k.ensures) loop.invariant in
-    (le_trans more.0 c.requires.sizes_bound, more.1)
+    let listed = c.requires.sizes_in.each c.loop-x.x-index c.loop-x-test.true in
+    listed_next a.severity.now a.after.now a.sizes.now c.loop-x.x-index c.loop-x-test.true listed.0
 
-pub overflow_mul-sum : goal.overflow_mul-sum
+pub plus-added-requires-clause-fits : goal.plus-added-requires-clause-fits
 unfolding S
-overflow_mul-sum c = omega (arith, (added (goal.at.overflow_mul-sum c).After-wide-in-loop-k).0)
+plus-added-requires-clause-fits c = omega (arith, next (goal.at.plus-added-requires-clause-fits c).In-loop-x)
 
-pub overflow_add-sum : goal.overflow_add-sum
-unfolding S
-overflow_add-sum c = omega (arith, (added (goal.at.overflow_add-sum c).After-wide-in-loop-k).0)
+pub loop-x-preserved : goal.loop-x-preserved
+loop-x-preserved c = record { passed = omega arith; whole = omega (arith, next (goal.at.loop-x-preserved c).In-loop-x) }
 
-pub overflow_add-k : goal.overflow_add-k
-overflow_add-k c = omega (arith, c.loop-k-test.true)
-
-pub loop-k-smaller : goal.loop-k-smaller
-loop-k-smaller c = omega (arith, c.loop-k-test.true)
-
-pub loop-k-preserved : goal.loop-k-preserved
-loop-k-preserved c = (added (goal.at.loop-k-preserved c).After-wide-in-loop-k).1
-
-pub returns : goal.returns
-returns c =
-    let a = c.args in let both = list_summing_end (sum_term a.severity.now a.after.now) a.sizes.now c.loop-k.sum c.loop-k.k c.loop-k-test.false c.loop-k.invariant in record { sum = both.0; products = both.1 }
+pub returns-clause-sum : goal.returns-clause-sum
+returns-clause-sum c =
+    let a = c.args in
+    omega (arith, listed_none (sum_term a.severity.now a.after.now) a.sizes.now c.loop-x.x-index c.loop-x-test.false)

@@ -1,17 +1,12 @@
 -- `last_halves` meets its contract: each half as it came back (`HalfLaws`).
 use native.Mathlib.Omega.{arith}
 use lib.ListN.{length-take}
-use lib.Seq.{length-take-le}
 use Rattle.month_rows.specs.Shapes.{rows_size}
 use Rattle.month_rule.proofs.HalfLaws.{first_half, second_half, parts_both}
 use Rattle.month_rule.proofs.halves.last_halves.Goals as goal
 
 pub slice_bounds-last_rows-end-2 : goal.slice_bounds-last_rows-end-2
 slice_bounds-last_rows-end-2 c = simp length-take (omega arith)
-
-pub last_rows-requires : goal.last_rows-requires
-last_rows-requires c =
-    (c.requires.0, length-take-le (rows_size c.args.shape) c.args.halves.now (omega arith))
 
 pub returns : goal.returns
 returns c =

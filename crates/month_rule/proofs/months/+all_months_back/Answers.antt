@@ -42,15 +42,6 @@ returns-then-chances-lt1 t c =
 pub overflow_add-after : goal.overflow_add-after
 overflow_add-after t c = omega (arith, (fits t (goal.at.overflow_add-after t c).Else-chances-lt1).first, (fits t (goal.at.overflow_add-after t c).Else-chances-lt1).row)
 
-pub slice_bounds-all_months_back-count : goal.slice_bounds-all_months_back-count
-slice_bounds-all_months_back-count t c = omega (arith, (fits t (goal.at.slice_bounds-all_months_back-count t c).Else-chances-lt1).some-month)
-
-pub slice_bounds-all_months_back-start : goal.slice_bounds-all_months_back-start
-slice_bounds-all_months_back-start t c = omega (arith, (fits t (goal.at.slice_bounds-all_months_back-start t c).Else-chances-lt1).some-month)
-
-pub slice_bounds-all_months_back-end : goal.slice_bounds-all_months_back-end
-slice_bounds-all_months_back-end t c = omega (arith, (fits t (goal.at.slice_bounds-all_months_back-end t c).Else-chances-lt1).some-month)
-
 pub all_months_back-requires : goal.all_months_back-requires
 all_months_back-requires t c =
     let a = c.args in
@@ -58,9 +49,6 @@ all_months_back-requires t c =
     let fewer : length (take (n - 1) (drop 1 a.chances.now)) ≡ n - 1 = length-take-le (n - 1) (drop 1 a.chances.now) (omega (arith, length-drop 1 a.chances.now)) in
     let terms : PlanTerms a.severity.now (take (n - 1) (drop 1 a.chances.now)) =
     record { weights_fit = c.requires.plan_terms.weights_fit; sizes_fit = c.requires.plan_terms.sizes_fit; chances_fit = parts_part a.chances.now 1 (n - 1) c.requires.plan_terms.chances_fit } in (omega (arith, fewer, (fits t (goal.at.all_months_back-requires t c).Else-chances-lt1).some-month), (c.requires.rows_in, (rw fewer (fits t (goal.at.all_months_back-requires t c).Else-chances-lt1).levels, (terms, c.requires.listing))))
-
-pub bounds-chances-0 : goal.bounds-chances-0
-bounds-chances-0 t c = omega (arith, (fits t (goal.at.bounds-chances-0 t c).Else-chances-lt1).some-month)
 
 pub month_back-requires : goal.month_back-requires
 month_back-requires t c =

@@ -6,9 +6,6 @@ use Rattle.month_rows.proofs.ManyRows.{rows_in_again, forbidden_levels}
 use Rattle.month_rule.proofs.AllMonths.{month_forbidden}
 use Rattle.month_rule.proofs.months.month_back.Goals as goal
 
-pub forbid_rows-requires : goal.forbid_rows-requires
-forbid_rows-requires c = (c.requires.rows_in, c.requires.top_in.inside)
-
 pub all_rows_back-requires : goal.all_rows_back-requires
 all_rows_back-requires c = record {
   rows_in = rows_in_again c.args.shape c.args.rows.now c.forbid_rows.new.rows c.requires.rows_in c.forbid_rows.auto.rows c.forbid_rows.ensures.parts;
