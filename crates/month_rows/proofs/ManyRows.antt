@@ -89,10 +89,6 @@ pub record Forbidding (old : List ℕ) (width first last : ℕ) (rows : List ℕ
   pub done : (i : ℕ) → i < j → (s : ℕ) → s < width → rows_at width rows i s ≡ kept (between first last) (rows_at width old i) s
   pub rest : (k : ℕ) → j * width ≤ k → get_or rows k 0 ≡ get_or old k 0
 
-pub forbidding_start : (old : List ℕ) (width first last : ℕ) → Parts old → Forbidding old width first last old 0
-forbidding_start old width first last h =
-    record { same_length = refl; parts = h; done = λ i l s m. absurd (omega arith); rest = λ k l. refl }
-
 forbidding_row :
     (old : List ℕ) (count width first last : ℕ) → length old ≡ count * width →
     (rows row : List ℕ) (j : ℕ) → j < count → Forbidding old width first last rows j →
@@ -170,17 +166,6 @@ between_places low above top s l = ap₂ (λ (a b : Bool). a && b) first last �
     and_comm true false = refl
     and_comm false true = refl
     and_comm false false = refl
-
--- all rows forbidden, by the claims left
-pub forbidden_in :
-    (shape : Shape) (top : ℕ) (old rows : List ℕ) (first last j : ℕ) → shape.rows ≤ j →
-    first ≡ top + 1 - shape.above → last ≡ top + 1 - shape.low → Forbidding old shape.width first last rows j →
-    (k : ℕ) → k < shape.rows → (i : ℕ) → i < shape.width → at (row_with shape rows k) i ≡ kept (allowed_places shape top) (at (row_with shape old k)) i
-unfolding kept
-forbidden_in shape top old rows first last j all ef el h k l i m =
-    let same : between first last i ≡ allowed_places shape top i = rw (ef, el) in
-    h.done (shape.rows - 1 - k) (omega arith) i m
-    ∙ ap (λ (b : Bool). cond b (at (row_with shape old k) i) 0) same
 
 -- and by the level
 pub forbidden_levels :

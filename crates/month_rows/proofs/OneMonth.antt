@@ -81,16 +81,6 @@ pub record GoingBack (last width live : ℕ) (new : ℕ → Row) (old rows : Lis
   pub beyond : (i : ℕ) → i < j → (p : ℕ) → live ≤ p → p < width → rows_at width rows i p ≡ rows_at width old i p
   pub rest : (k : ℕ) → j * width ≤ k → at rows k ≡ at old k
 
-pub going_back_start : (last width live : ℕ) (new : ℕ → Row) (old : List ℕ) → Parts old → GoingBack last width live new old old 0
-going_back_start last width live new old h =
-    record {
-      same_length = refl;
-      parts = h;
-      done = λ i l p b. absurd (omega arith);
-      beyond = λ i l p a b. refl;
-      rest = λ k l. refl;
-    }
-
 -- a place of a row, by its index in the list
 same_place : (a : ℕ) (xs ys : List ℕ) (p : ℕ) → at xs (a + p) ≡ at ys (a + p) → at (drop a xs) p ≡ at (drop a ys) p
 same_place a xs ys p e = get_or-drop a xs p 0 ∙ e ∙ sym (get_or-drop a ys p 0)

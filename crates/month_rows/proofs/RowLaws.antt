@@ -1,5 +1,5 @@
 -- Laws of rows in memory: a row rewritten in place, upward.
-use mathlib.Core.Path.{◌≡◌, refl, sym, ◌∙◌, ap}
+use mathlib.Core.Path.{◌≡◌, sym, ◌∙◌, ap}
 use mathlib.Core.List.{List, [], ◌∷◌}
 use Prim.Native.Nat.{ℕ, zero, suc, ◌+◌, ◌*◌, ◌-◌, ◌≤◌, zero-le, ◌<◌}
 use native.Mathlib.Nat.{le_refl, le_trans}
@@ -67,14 +67,6 @@ pub record Rewriting (old : List ℕ) (from : ℕ) (new : Row) (rows : List ℕ)
   pub same_length : length rows ≡ length old
   pub parts : Parts rows
   pub so_far : Replaced from i new old rows
-
-pub rewriting_start : (old : List ℕ) (from : ℕ) (new : Row) → Parts old → Rewriting old from new old 0
-rewriting_start old from new h =
-    record {
-      same_length = refl;
-      parts = h;
-      so_far = record { inside = λ j l. absurd (omega arith); earlier = λ k l. refl; later = λ k l. refl };
-    }
 
 pub rewriting_turn :
     (old : List ℕ) (from : ℕ) (new : Row) (rows : List ℕ) (i v : ℕ) → Rewriting old from new rows i → from + i < length rows → v ≡ new i → v ≤ S →

@@ -1,6 +1,6 @@
 // Rows of values in lent memory. The place in a row is what has been paid in claims: a month without a claim keeps the place, a claim of size x
 // leads x places on. So a month reads a place and those beyond it, and rewrites a row in place going upward.
-ghost use Rattle.std.specs.Prelude.{◌≡◌, ℕ, ◌+◌, ◌-◌, ◌<◌, ◌≤◌, length, drop, replicate};
+ghost use Rattle.std.specs.Prelude.{◌≡◌, ℕ, ◌+◌, ◌-◌, ◌<◌, ◌≤◌, length, drop};
 ghost use Rattle.model.specs.MonthRule.{month, kept, claimed_row};
 ghost use Rattle.claims.specs.Values.{from_top, Parts};
 ghost use Rattle.month_rows.specs.Rows.{at, MonthTerms, Replaced, between, own_sizes, after_claim_by};
@@ -21,12 +21,6 @@ pub struct Shape {
     pub tallied: bool,
     pub low: usize,
     pub above: usize,
-}
-
-pub fn fill(part: &mut [u32], value: u32)
-    ensures { part.new ≡ replicate (length part.old) value }
-{
-    part.fill(value);
 }
 
 // A row's value at a level, where place 0 holds the level `top`.

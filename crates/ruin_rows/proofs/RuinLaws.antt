@@ -55,8 +55,5 @@ module _ (xs : List ℕ) (n half : ℕ) (zeros : xs ≡ replicate n 0) (whole : 
       let twice : n ≡ half + half = omega arith in
       zeros ∙ ap (λ (m : ℕ). replicate m 0) twice ∙ sym (replicate-append-replicate half half 0)
 
-  pub zeros_first : take half xs ≡ replicate half 0
-  zeros_first = ap (take half) two_halves ∙ take_at (replicate half 0) (replicate half 0) half (length-replicate half 0)
-
   pub zeros_second : drop half xs ≡ replicate half 0
   zeros_second = ap (drop half) two_halves ∙ drop_at (replicate half 0) (replicate half 0) half (length-replicate half 0)
