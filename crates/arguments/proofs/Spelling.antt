@@ -1,22 +1,28 @@
 -- A number that is read digit by digit. Assumes nothing.
 use Prim.Native.Nat.{ℕ, ◌+◌, ◌≤◌, ◌<◌, min}
 use mathlib.Core.Path.{◌≡◌, refl, sym, ap, ◌∙◌}
-use mathlib.Core.Bool.{true, false}
+use mathlib.Core.Bool.{Bool, true, false, not}
 use mathlib.Core.List.{List, [], ◌∷◌, ◌++◌, foldl-append}
 use native.Mathlib.Omega.{arith}
 use native.Mathlib.Numerals.{add-one}
 use borrow.Author.Tests.{eq-eqb, ne_eqb}
 use lib.ListN.{length, get_or, take, drop}
 use lib.Seq.{take-suc, take_all}
+use Rattle.std.specs.Char.{is_ascii_digit}
+use Rattle.std.proofs.lemmas.Bool.Decides.{nat_tests}
 use Rattle.model.specs.Sums.{any}
 use Rattle.plan.proofs.Rows.{any_next, any_end}
-use Rattle.arguments.specs.declared.Number.{Number}
-use Rattle.arguments.specs.Numbers.{not_digit, is_number, with_digit, spelled, most_number, number_of}
+use Rattle.arguments.specs.Numbers.{Number, not_digit, is_number, with_digit, spelled, most_number, number_of}
 
 -- one more digit at the end
 pub spelled_more : (bs : List ℕ) (b : ℕ) → spelled (bs ++ b ∷ []) ≡ with_digit (spelled bs) b
 unfolding spelled
 spelled_more bs b = foldl-append _ 0 bs (b ∷ [])
+
+-- the library's test is both comparisons at once
+none_other : (b : ℕ) (r : Bool) → is_ascii_digit b ≡ r → not_digit b ≡ not r
+unfolding not_digit
+none_other b r e = grind (arith, nat_tests)
 
 -- what was cut off before it is cut off after it
 cut_more : (n b : ℕ) → min (with_digit (min n most_number) b) most_number ≡ min (with_digit n b) most_number
@@ -47,22 +53,22 @@ module _ (argument : List ℕ) where
   module _ (number i : ℕ) (read : Spelling argument number i) where
     pub spelling_more :
         i < length argument
-        → not_digit (get_or argument i 0) ≡ false
+        → is_ascii_digit (get_or argument i 0) ≡ true
         → Spelling argument (min (with_digit number (get_or argument i 0)) most_number) (i + 1)
     spelling_more inside digit =
         record {
           within = omega arith;
-          decides = sym (any_next argument i not_digit inside ∙ rw digit) ∙ read.decides;
+          decides = sym (any_next argument i not_digit inside ∙ rw (none_other _ _ digit)) ∙ read.decides;
           so_far =
               ap (λ n. min (with_digit n (get_or argument i 0)) most_number) read.so_far
               ∙ cut_more _ _
               ∙ sym (rw (add-one, take-suc argument i 0 inside, spelled_more));
         }
 
-    pub spelling_stopped : i < length argument → not_digit (get_or argument i 0) ≡ true → number_of argument ≡ unreadable
+    pub spelling_stopped : i < length argument → is_ascii_digit (get_or argument i 0) ≡ false → number_of argument ≡ unreadable
     unfolding number_of is_number
     spelling_stopped inside other =
-        let some : any not_digit argument ≡ true = sym read.decides ∙ any_next argument i not_digit inside ∙ rw other in
+        let some : any not_digit argument ≡ true = sym read.decides ∙ any_next argument i not_digit inside ∙ rw (none_other _ _ other) in
         rw (ne_eqb (length argument) 0 (λ z. omega (arith, z)), some)
 
     pub spelling_done :
@@ -71,3 +77,6 @@ module _ (argument : List ℕ) where
     spelling_done some all =
         let none : any not_digit argument ≡ false = sym read.decides ∙ any_end argument i not_digit all in
         rw (ne_eqb _ 0 some, none, read.so_far, take_all i argument all)
+
+-- what the loop's goals need
+pub ruleset spelling = (nothing_spelled, spelling_none, spelling_more, spelling_stopped, spelling_done)

@@ -1,9 +1,8 @@
 -- A number as it is written in an argument: in decimal, "a target from 1 to S", a number of claims, a level.
-use Rattle.std.specs.Prelude.{ℕ, ◌+◌, ◌*◌, ◌-◌, ◌^◌, min, Bool, true, false, not, ◌||◌, cond, eqb, ltb, length}
+use Rattle.std.specs.Prelude.{ℕ, ◌+◌, ◌*◌, ◌-◌, ◌^◌, min, Bool, true, false, not, ◌||◌, cond, eqb, ltb, length, Option, Some, None}
 use Prim.Native.Char.{code}
 use mathlib.Core.List.{List, foldl}
 use Rattle.model.specs.Sums.{any}
-use Rattle.arguments.specs.declared.Number.{Number}
 
 -- a byte that is none of the digits 0 to 9
 unfoldable pub not_digit : ℕ → Bool
@@ -23,6 +22,16 @@ spelled bytes = foldl with_digit 0 bytes
 -- the largest number of 32 bits, far above S and every limit of a question
 abbrev pub most_number : ℕ
 most_number = 2 ^ 32 - 1
+
+-- A number, and whether it could be read; 0 where it could not.
+pub record Number : Type 0 where
+  pub readable : Bool
+  pub value : ℕ
+
+-- a number as the code answers it
+abbrev pub number_told : Option ℕ → Number
+number_told None = record { readable = false; value = 0 }
+number_told (Some n) = record { readable = true; value = n }
 
 -- the number of an argument: one too large for 32 bits is cut off there
 unfoldable pub number_of : List ℕ → Number

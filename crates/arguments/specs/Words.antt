@@ -1,11 +1,15 @@
 -- A question as it is asked of a program, in arguments that have the report's words.
-use Rattle.std.specs.Prelude.{ℕ, true, false, not, ◌||◌, cond, List, eqb}
+use Rattle.std.specs.Prelude.{ℕ, Bool, true, false, not, ◌||◌, cond, List, eqb, Option, Some, None}
 use Rattle.model.specs.declared.Question.{Question}
 use Rattle.model.specs.declared.Question.TheVariants.{Survive, Both, High, Low}
 use Rattle.numbers.specs.Same.{same}
 use Rattle.text.specs.Text.{ascii}
-use Rattle.arguments.specs.declared.Asked.{Asked}
 use Rattle.arguments.specs.Numbers.{number_of}
+
+-- A question, and whether the words are one; survive where they are not.
+pub record Asked : Type 0 where
+  pub readable : Bool
+  pub question : Question
 
 -- a question, and words that are none
 abbrev pub read_as : Question → Asked
@@ -13,6 +17,11 @@ read_as q = record { readable = true; question = q }
 
 abbrev pub unread : Asked
 unread = record { readable = false; question = Survive }
+
+-- a question as the code answers it
+abbrev pub question_told : Option Question → Asked
+question_told None = unread
+question_told (Some q) = read_as q
 
 -- the questions that have a number
 unfoldable pub by_word : List ℕ → ℕ → Asked

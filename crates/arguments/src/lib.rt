@@ -1,113 +1,63 @@
 // What a program was asked, from its arguments: a number, or a question and its number.
 #![tactic(auto)]
 
-mod digits;
+ghost use Rattle.std.specs.Prelude.{◌≡◌, min};
+ghost use Rattle.arguments.specs.Numbers.{with_digit, most_number, number_of, number_told};
+ghost use Rattle.arguments.specs.Words.{by_word, question_of, question_told};
 
-ghost use Rattle.std.specs.Prelude.{◌≡◌};
-ghost use Rattle.arguments.specs.Numbers.{number_of};
-ghost use Rattle.arguments.specs.Words.{read_as, unread, by_word, question_of};
-
-use crate::digits::{next_number, not_digit};
-use check::same;
 use model::Question;
 
-// A number, and whether it could be read; 0 where it could not.
-#[derive(Clone, Copy)]
-pub struct Number {
-    pub readable: bool,
-    pub value: u32,
-}
-
-// A question, and whether the words are one; survive where they are not.
-#[derive(Clone, Copy)]
-pub struct Asked {
-    pub readable: bool,
-    pub question: Question,
-}
-
 // Reads a number that is written in decimal; leading zeros change nothing.
-pub fn number_of(argument: &[u8]) -> Number
-    ensures { result ≡ number_of argument.now }
+#[tactic(auto, using(crate::proofs::Spelling::spelling))]
+pub fn number_of(argument: &[u8]) -> Option<u32>
+    ensures { number_told result ≡ number_of argument.now }
 {
-    if argument.len() == 0 {
-        return Number {
-            readable: false,
-            value: 0,
-        };
+    if argument.is_empty() {
+        return None;
     }
     let mut number = 0;
-    let mut i = 0;
-    while i < argument.len() {
-        if not_digit(argument[i]) {
-            return Number {
-                readable: false,
-                value: 0,
-            };
+    for byte in argument {
+        if !byte.is_ascii_digit() {
+            return None;
         }
-        number = next_number(number, argument[i]);
-        i += 1;
+        number = next_number(number, *byte);
     }
-    Number {
-        readable: true,
-        value: number,
-    }
+    Some(number)
 }
 
-fn read(question: Question) -> Asked
-    ensures { result ≡ read_as question }
+// A number with a digit more at its end; one too large for 32 bits is cut off there.
+fn next_number(number: u32, byte: u8) -> u32
+    ensures { result ≡ min (with_digit number byte) most_number }
 {
-    Asked {
-        readable: true,
-        question,
-    }
-}
-
-fn no_question() -> Asked
-    ensures { result ≡ unread }
-{
-    Asked {
-        readable: false,
-        question: Question::Survive,
-    }
+    let digit = byte.saturating_sub(b'0');
+    number.saturating_mul(10).saturating_add(u32::from(digit))
 }
 
 // The questions that have a number.
-fn numbered(word: &[u8], number: usize) -> Asked
-    ensures { result ≡ by_word word.now number }
+#[tactic(auto, using(crate::proofs::WordLaws::same_pointwise), unfolding(crate::specs::Words::by_word))]
+fn numbered(word: &[u8], number: usize) -> Option<Question>
+    ensures { question_told result ≡ by_word word.now number }
 {
-    if same(word, b"both") {
-        return read(Question::Both(number));
+    if word == b"both".as_slice() {
+        Some(Question::Both(number))
+    } else if word == b"high".as_slice() {
+        Some(Question::High(number))
+    } else if word == b"low".as_slice() {
+        Some(Question::Low(number))
+    } else {
+        None
     }
-    if same(word, b"high") {
-        return read(Question::High(number));
-    }
-    if same(word, b"low") {
-        return read(Question::Low(number));
-    }
-    no_question()
 }
 
 // Reads a question from so many words, of which it takes the first two: none are survive, and the others are as the report has them.
-pub fn question_of(count: usize, word: &[u8], number: &[u8]) -> Asked
-    ensures { result ≡ question_of count word.now number.now }
+#[tactic(auto, using(crate::proofs::WordLaws::same_pointwise), unfolding(crate::specs::Words::question_of))]
+pub fn question_of(count: usize, word: &[u8], number: &[u8]) -> Option<Question>
+    ensures { question_told result ≡ question_of count word.now number.now }
 {
-    if count == 0 {
-        return read(Question::Survive);
+    match count {
+        0 => Some(Question::Survive),
+        1 if word == b"survive".as_slice() => Some(Question::Survive),
+        2 => numbered(word, number_of(number)? as usize),
+        _ => None,
     }
-    if count == 1 {
-        if same(word, b"survive") {
-            return read(Question::Survive);
-        }
-        return no_question();
-    }
-    let written = number_of(number);
-    let readable = written.readable;
-    let value = written.value as usize;
-    if !readable {
-        return no_question();
-    }
-    if count != 2 {
-        return no_question();
-    }
-    numbered(word, value)
 }

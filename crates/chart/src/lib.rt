@@ -9,7 +9,6 @@ ghost use Rattle.report_lines.specs.Lines.{line_room};
 ghost use Rattle.chart.specs.Chart.{chart_lines, pair_line, text_room, chart_of};
 
 use model::Head;
-use numbers::wide;
 use plan::lengths::row_length;
 use report_lines::lines::{put_numbered, put_refused};
 use rooms::{blank_bounds, blank_survival_workspace};
@@ -20,6 +19,7 @@ pub const TEXT: usize = 16384;
 
 // Writes the chart of a plan's bytes to the start of the text, past which nothing changes, and answers how long it is. `within` is for a caller that takes
 // the first r bytes.
+#[tactic(auto, using(text::proofs::TextLaws::appended_whole))]
 pub fn chart(bytes: &[u8], text: &mut [u8; TEXT]) -> usize
     ensures answered { result ≡ length (chart_of bytes.now) }
     ensures written { text.new ≡ chart_of bytes.now ++ drop result text.old }
@@ -61,13 +61,10 @@ fn put_lines(text: &mut [u8], bounds: &[u32], opening: usize) -> usize
     ensures { Appended text.old 0 (joined (opening + 1) (pair_line bounds.now)) text.new result }
 {
     let mut end = 0;
-    let mut v = 0;
-    while v <= opening {
-        let place = 2 * v;
-        let lower = wide(bounds[place]);
-        let upper = wide(bounds[place + 1]);
+    for v in 0..=opening {
+        let lower = u64::from(bounds[2 * v]);
+        let upper = u64::from(bounds[2 * v + 1]);
         end = put_numbered(text, end, b"opening", v, lower, upper);
-        v += 1;
     }
     end
 }

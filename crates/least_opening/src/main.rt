@@ -8,26 +8,19 @@ use std::env::{Env, FillError};
 
 // The program's name is counted too. Without a target nothing is read.
 fn main(rt: HostRuntime) {
-    let count = argument_count(&rt);
-    if count < 2 {
-        say(&rt, "no target");
-    } else if 2 < count {
-        say(&rt, "more than one argument");
-    } else {
-        with_target(&rt);
+    match argument_count(&rt) {
+        0 | 1 => say(&rt, "no target"),
+        2 => with_target(&rt),
+        _ => say(&rt, "more than one argument"),
     }
 }
 
 fn with_target(rt: &HostRuntime) {
     let mut word = io::buffer();
     let n = argument(rt, 1, &mut word);
-    let target = arguments::number_of(&word[..n]);
-    let readable = target.readable;
-    let parts = target.value;
-    if readable {
-        answer(rt, parts);
-    } else {
-        say(rt, "the target is not a number");
+    match arguments::number_of(&word[..n]) {
+        Some(target) => answer(rt, target),
+        None => say(rt, "the target is not a number"),
     }
 }
 
@@ -79,8 +72,5 @@ fn argument_count(rt: &HostRuntime) -> usize {
 fn argument(rt: &HostRuntime, i: usize, buffer: &mut [u8]) -> usize
     ensures { result ≤ length buffer.new }
 {
-    match rt.arg(i, buffer) {
-        Ok(n) => n,
-        Err(_) => 0,
-    }
+    rt.arg(i, buffer).unwrap_or(0)
 }

@@ -20,7 +20,7 @@ use Rattle.mixture.specs.Bounds.{mixture_lower, mixture_upper}
 use Rattle.mixture.specs.Answers.{mixture_answer, mixture_workspace_after}
 use Rattle.report_lines.specs.Asking.{question_needs, Cleared}
 use Rattle.report_lines.specs.Lines.{line_room}
-use Rattle.report_lines.proofs.AskingLaws.{cleared_long}
+use Rattle.report_lines.proofs.AskingLaws.{room_still}
 use Rattle.report_lines.proofs.LineLaws.{bounds_short}
 use Rattle.mixture_lines.specs.Lines.{mixture_line, MixtureAnswerable}
 
@@ -35,7 +35,7 @@ module _ {m : Mixture} {row ws : List ℕ} (a : MixtureAnswerable m row ws) wher
   -- the next question can be asked
   pub answerable_still : {n : ℕ} {ws' : List ℕ} → Cleared n ws ws' → MixtureAnswerable m row ws'
   answerable_still p =
-      record { accepted = a.accepted; heads_long = a.heads_long; weights_long = a.weights_long; room = omega (arith, cleared_long a.room p, a.room) }
+      record { accepted = a.accepted; heads_long = a.heads_long; weights_long = a.weights_long; room = room_still a.room p }
 
   -- one question
   module _ (q : Question) (within : outside q ≡ false) where

@@ -2,20 +2,20 @@
 // limits and enough room give.
 #![tactic(auto)]
 
-ghost use Rattle.std.specs.Prelude.{◌≡◌, false, ◌+◌, ◌*◌, ◌≤◌, length};
-ghost use Rattle.model.specs.Refusal.{outside};
+ghost use Rattle.std.specs.Prelude.{◌≤◌, length};
 ghost use Rattle.mixture_plans.specs.Rows.{components_of};
 ghost use Rattle.mixture_plans.specs.Refusal.{plans_head};
+ghost use Rattle.mixture_plans.proofs.CheckLaws.{mixture_facts, head_accepted};
 ghost use Rattle.text.specs.Text.{Appended};
-ghost use Rattle.report_lines.specs.Asking.{question_needs, Cleared};
-ghost use Rattle.report_lines.specs.Lines.{line_room};
-ghost use Rattle.report_groups.specs.Groups.{question_lines, group_lines, lines_need, group_needs, LinesFit, most_lines};
+ghost use Rattle.report_lines.specs.Asking.{Cleared};
+ghost use Rattle.report_lines.proofs.AskingLaws.{room_still};
+ghost use Rattle.report_lines.proofs.LineLaws.{bounds_short};
 ghost use Rattle.mixture_lines.specs.Lines.{mixture_line, mixture_report, mixture_text_room, MixtureAnswerable, mixture_needs};
 
 use mixture::ask;
 use mixture_plans::Mixture;
-use model::Question;
-use report_groups::{line_range, numbered};
+use model::{Head, Question};
+use report_groups::{Asked, put_group};
 use report_lines::lines::{put_bounds, put_head};
 
 // All lines of the report, from the start of the text.
@@ -25,93 +25,49 @@ pub fn put_mixture(text: &mut [u8], mixture: Mixture, row: &[u32], workspace: &m
     ensures written { Appended text.old 0 (mixture_report (plans_head mixture) (components_of mixture row.now)) text.new result }
     ensures cleared { Cleared (mixture_needs mixture) workspace.old workspace.new }
 {
-    let heads = mixture.heads;
-    let end = put_head(text, 0, heads[0]);
-    let end = put_group(text, end, mixture, Question::Survive, row, workspace);
-    let end = put_group(text, end, mixture, Question::Both(0), row, workspace);
-    let end = put_group(text, end, mixture, Question::High(0), row, workspace);
-    put_group(text, end, mixture, Question::Low(0), row, workspace)
+    let asked = MixtureAsked { mixture, row };
+    let end = put_head(text, 0, asked.head());
+    let end = put_group(text, end, &asked, Question::Survive, workspace);
+    let end = put_group(text, end, &asked, Question::Both(0), workspace);
+    let end = put_group(text, end, &asked, Question::High(0), workspace);
+    put_group(text, end, &asked, Question::Low(0), workspace)
 }
 
-// All lines of a question.
-fn put_group(
-    text: &mut [u8],
-    at: usize,
+// A mixture and its plans' rows, to be asked.
+#[derive(Clone, Copy)]
+struct MixtureAsked<'a> {
     mixture: Mixture,
-    question: Question,
-    row: &[u32],
-    workspace: &mut [u32],
-) -> usize
-    requires mixture_answerable { MixtureAnswerable mixture row.now workspace.old }
-    requires line_room_in_bounds { at + most_lines question * line_room ≤ length text.old }
-    ensures written { Appended text.old at (group_lines (mixture_line (components_of mixture row.now)) (plans_head mixture) question) text.new result }
-    ensures cleared { Cleared (group_needs (plans_head mixture) question) workspace.old workspace.new }
-{
-    let heads = mixture.heads;
-    let range = line_range(question, heads[0]);
-    put_range(
-        text,
-        at,
-        mixture,
-        question,
-        range.first,
-        range.count,
-        row,
-        workspace,
-    )
+    row: &'a [u32],
 }
 
-// A question's lines, its number rising from the first.
-fn put_range(
-    text: &mut [u8],
-    at: usize,
-    mixture: Mixture,
-    question: Question,
-    first: usize,
-    count: usize,
-    row: &[u32],
-    workspace: &mut [u32],
-) -> usize
-    requires mixture_answerable { MixtureAnswerable mixture row.now workspace.old }
-    requires lines_fit { LinesFit question first count at text.old }
-    ensures written { Appended text.old at (question_lines (mixture_line (components_of mixture row.now)) question first count) text.new result }
-    ensures cleared { Cleared (lines_need (plans_head mixture) question first count) workspace.old workspace.new }
-{
-    let mut end = at;
-    for i in 0..count {
-        end = put_question(
-            text,
-            end,
-            mixture,
-            numbered(question, first + i),
-            row,
-            workspace,
-        );
+impl<'a> Asked for MixtureAsked<'a> {
+    ghost asked_head = { λ s. plans_head s.mixture };
+
+    ghost asked_line = { λ s. mixture_line (components_of s.mixture s.row.now) };
+
+    ghost can_answer = { λ s ws. MixtureAnswerable s.mixture s.row.now ws };
+
+    fn head(&self) -> Head {
+        self.mixture.heads[0]
     }
-    end
-}
 
-// A question's line, as the mixture answers it.
-fn put_question(
-    text: &mut [u8],
-    at: usize,
-    mixture: Mixture,
-    question: Question,
-    row: &[u32],
-    workspace: &mut [u32],
-) -> usize
-    requires mixture_answerable { MixtureAnswerable mixture row.now workspace.old }
-    requires question_value { outside question ≡ false }
-    requires line_room_in_bounds { at + line_room ≤ length text.old }
-    ensures written { Appended text.old at (mixture_line (components_of mixture row.now) question) text.new result }
-    ensures cleared { Cleared (question_needs (plans_head mixture) question) workspace.old workspace.new }
-{
-    let bounds = ask(mixture, question, row, workspace);
-    put_bounds(
-        text,
-        at,
-        question,
-        u64::from(bounds.lower),
-        u64::from(bounds.upper),
-    )
+    fn put_question(
+        &self,
+        text: &mut [u8],
+        at: usize,
+        question: Question,
+        workspace: &mut [u32],
+    ) -> usize {
+        let bounds = ask(self.mixture, question, self.row, workspace);
+        let (lower, upper) = (u64::from(bounds.lower), u64::from(bounds.upper));
+        put_bounds(text, at, question, lower, upper)
+    }
+
+    ghost accepted = { λ s ws a. head_accepted _ _ (mixture_facts _ _ a.heads_long a.weights_long a.accepted) };
+
+    ghost short = { λ s q. unfold mixture_line in bounds_short q _ _ };
+
+    ghost room = { λ s ws a. a.room };
+
+    ghost still = { λ s n ws ws' a cleared. record { accepted = a.accepted; heads_long = a.heads_long; weights_long = a.weights_long; room = room_still a.room cleared } };
 }

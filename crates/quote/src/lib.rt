@@ -21,6 +21,7 @@ pub const TEXT: usize = 128;
 
 // Writes the line for a plan's bytes and a target to the start of the text, past which nothing changes, and answers how long it is. `within` is for a
 // caller that takes the first r bytes.
+#[tactic(auto, using(text::proofs::TextLaws::appended_whole))]
 pub fn quote(bytes: &[u8], target: u32, text: &mut [u8; TEXT]) -> usize
     ensures answered { result ≡ length (quote_of bytes.now target) }
     ensures written { text.new ≡ quote_of bytes.now target ++ drop result text.old }
@@ -57,8 +58,8 @@ fn put_answer(text: &mut [u8], answer: LeastAnswer) -> usize
     ensures { Appended text.old 0 (answer_line answer) text.new result }
 {
     let refusal = answer.refusal;
-    let lower = answer.lower as u64;
-    let upper = answer.upper as u64;
+    let lower = u64::from(answer.lower);
+    let upper = u64::from(answer.upper);
     if refusal != 0 {
         return put_refused(text, 0, refusal);
     }

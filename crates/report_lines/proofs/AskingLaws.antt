@@ -50,8 +50,11 @@ cleared_long room p =
     let inside = p.inside in
     ap length p.is ∙ (simp (length-append, length-replicate, length-drop) (omega arith))
 
+pub room_still : {n : ℕ} {b b' : List ℕ} → workspace_room ≤ length b → Cleared n b b' → workspace_room ≤ length b'
+room_still room p = omega (arith, cleared_long room p)
+
 pub answerable_still : {h : Head} {row : List ℕ} {n : ℕ} {b b' : List ℕ} → Answerable h row b → Cleared n b b' → Answerable h row b'
-answerable_still a p = record { accepted = a.accepted; room = omega (arith, cleared_long a.room p, a.room) }
+answerable_still a p = record { accepted = a.accepted; room = room_still a.room p }
 
 -- a call that answers bounds, within the limits and with a workspace that no question passes
 module _ {h : Head} {row ws : List ℕ} (a : Answerable h row ws) (o : Bool) (within : o ≡ false) (needed : ℕ) (fits : needed ≤ workspace_room) where

@@ -10,6 +10,7 @@ use crate::answers;
 use model::{Head, Question};
 use text::{put_entry, put_line};
 
+#[tactic(auto, using(text::proofs::TextLaws::entry_at_most, text::proofs::TextLaws::line_at_most))]
 pub fn put_head(text: &mut [u8], at: usize, head: Head) -> usize
     requires { at + head_room ≤ length text.old }
     ensures { Appended text.old at (head_line head) text.new result }
@@ -25,6 +26,7 @@ pub fn put_head(text: &mut [u8], at: usize, head: Head) -> usize
 }
 
 // A question's line, from its bounds.
+#[tactic(auto, using(text::proofs::TextLaws::line_at_most))]
 pub fn put_bounds(text: &mut [u8], at: usize, question: Question, lower: u64, upper: u64) -> usize
     requires { at + line_room ≤ length text.old }
     ensures { Appended text.old at (bounds_line question lower upper) text.new result }
@@ -38,6 +40,7 @@ pub fn put_bounds(text: &mut [u8], at: usize, question: Question, lower: u64, up
 }
 
 // A question's line, as the engine answers it.
+#[tactic(auto, unfolding(crate::specs::Lines::question_line))]
 pub fn put_question(
     text: &mut [u8],
     at: usize,
@@ -53,10 +56,12 @@ pub fn put_question(
     ensures cleared { workspace.new ≡ workspace_left head question workspace.old }
 {
     let bounds = answers::bounds_of(head, question, row, workspace);
-    put_bounds(text, at, question, bounds.lower as u64, bounds.upper as u64)
+    let (lower, upper) = (u64::from(bounds.lower), u64::from(bounds.upper));
+    put_bounds(text, at, question, lower, upper)
 }
 
 // A line with a number of its own, of a place of the count row or of a month.
+#[tactic(auto, using(text::proofs::TextLaws::line_at_most))]
 pub fn put_numbered(
     text: &mut [u8],
     at: usize,
@@ -72,9 +77,10 @@ pub fn put_numbered(
 }
 
 // The line of a refused plan, in the place of its report or its quote.
+#[tactic(auto, using(text::proofs::TextLaws::line_at_most))]
 pub fn put_refused(text: &mut [u8], at: usize, refusal: u32) -> usize
     requires { at + line_room ≤ length text.old }
     ensures { Appended text.old at (refused_line refusal) text.new result }
 {
-    put_line(text, at, b"refused", &[refusal as u64])
+    put_line(text, at, b"refused", &[u64::from(refusal)])
 }

@@ -10,7 +10,7 @@ ghost use Rattle.report_text.specs.Report.{text_room, plan_report, report_of, pl
 
 use model::{Head, Question};
 use plan::lengths::row_length;
-use report_groups::{put_counts, put_group};
+use report_groups::{PlanAsked, put_counts, put_group};
 use report_lines::lines::{put_head, put_refused};
 use rooms::blank_workspace;
 use ruin_lines::put_ruins;
@@ -60,11 +60,12 @@ fn put_plan(text: &mut [u8], head: Head, row: &[u32], workspace: &mut [u32]) -> 
     ensures written { Appended text.old 0 (plan_report head row.now) text.new result }
     ensures cleared { Cleared (plan_needs head) workspace.old workspace.new }
 {
+    let plan = PlanAsked { head, row };
     let end = put_head(text, 0, head);
-    let end = put_group(text, end, head, Question::Survive, row, workspace);
+    let end = put_group(text, end, &plan, Question::Survive, workspace);
     let end = put_counts(text, end, head, row);
-    let end = put_group(text, end, head, Question::Both(0), row, workspace);
-    let end = put_group(text, end, head, Question::High(0), row, workspace);
-    let end = put_group(text, end, head, Question::Low(0), row, workspace);
+    let end = put_group(text, end, &plan, Question::Both(0), workspace);
+    let end = put_group(text, end, &plan, Question::High(0), workspace);
+    let end = put_group(text, end, &plan, Question::Low(0), workspace);
     put_ruins(text, end, head, row, workspace)
 }

@@ -42,8 +42,8 @@ fn put_ruin(
     ensures cleared { workspace.new ≡ workspace_left head Survive workspace.old }
 {
     let bounds = ruin_of(head, month, row, workspace);
-    let lower = bounds.lower as u64;
-    let upper = bounds.upper as u64;
+    let lower = u64::from(bounds.lower);
+    let upper = u64::from(bounds.upper);
     let end = put_numbered(text, lines.end, b"fails", month, lower, upper);
     RuinLines {
         end,
@@ -65,16 +65,13 @@ pub fn put_ruins(
     ensures written { Appended text.old at (ruin_lines (plan_of head row.now)) text.new result }
     ensures cleared { Cleared (ruins_need head) workspace.old workspace.new }
 {
-    let months = head.months;
     let mut lines = RuinLines {
         end: at,
         lower: 0,
         upper: 0,
     };
-    let mut i = 0;
-    while i < months {
+    for i in 0..head.months {
         lines = put_ruin(text, lines, head, i + 1, row, workspace);
-        i += 1;
     }
     put_line(text, lines.end, b"fails all", &[lines.lower, lines.upper])
 }

@@ -9,9 +9,14 @@ use native.Mathlib.Nat.{pow-suc, eq-or-lt_of_le, zero-add, zero-mul, suc-mul, mu
 use mathlib.Core.Logic.{⊎_elim}
 use lib.Dec.{ltb}
 use lib.ListN.{length, get_or, take, drop, set, take-append-drop, length-append, length-set}
-use lib.Seq.{take-length, length-take-le, take-suc, take-suc-set, drop-drop, drop-set-lt}
+use lib.Seq.{length-take-le, take-suc-set, drop-drop, drop-set-lt}
 use borrow.Author.Tests.{lt-ltb, le-ltb}
-use Rattle.text.specs.Text.{last_digit, digits, decimal, spaced_each, joined, entry, line, Appended}
+use borrow.Author.Rules.{rules}
+use borrow.Rule.Slice.PartMut.{put_mid}
+use Rattle.std.proofs.lemmas.Slice.{take-put_mid, drop-put_mid, overwrites}
+use Rattle.std.specs.Fmt.{decimal as Fmt·decimal}
+use Rattle.std.proofs.lemmas.Fmt.{AppendsLastDigit, decimal_from_appends, length-decimal-le}
+use Rattle.text.specs.Text.{digits, decimal, spaced_each, joined, entry, line, Appended}
 
 -- nothing appended
 pub appended_none : (b : List ℕ) (at : ℕ) → at ≤ length b → Appended b at [] b at
@@ -58,10 +63,16 @@ appended_whole {b} {b'} {t} {end} p = (
 pub appended_byte : (b : List ℕ) (at x : ℕ) → at < length b → Appended b at (x ∷ []) (set b at x) (at + 1)
 appended_byte b at x h = record { ends = refl; inside = simp length-set (omega arith); holds = rw (add-one, take-suc-set); rest = drop-set-lt (at + 1) b at x (omega arith) }
 
--- a digit more
-digits_step : (places n : ℕ) → digits (suc places) n ≡ cond (ltb n 10) [] (digits places (n / 10)) ++ last_digit n ∷ []
-unfolding digits
-digits_step places n = refl
+-- a part that is written over
+pub appended_part :
+    {b word part : List ℕ} (at k : ℕ) → part ≡ word → k ≡ length word → at + length word ≤ length b → Appended b at word (put_mid at k b part) (at + length word)
+appended_part {b} {word} {part} at k e same room =
+    rw e (record {
+      ends = refl;
+      inside = search (rules, overwrites);
+      holds = take-put_mid at k b word _ refl (omega arith);
+      rest = drop-put_mid at k b word _ (omega arith) (omega arith) (sym same);
+    })
 
 no_longer : (b : Bool) (l : List ℕ) → length (cond b [] l) ≤ length l
 no_longer true l = omega arith
@@ -91,31 +102,18 @@ pub decimal_few : (k n : ℕ) → n < 10 ^ suc k → length (decimal n) ≤ suc 
 unfolding decimal
 decimal_few k n h = digits_few 20 k n h
 
--- a place more than the number needs changes nothing
-digits_enough : (places n : ℕ) → n < 10 ^ suc places → digits (suc (suc places)) n ≡ digits (suc places) n
+-- the library prints a number of 64 bits so
+appends_last : AppendsLastDigit digits
 unfolding digits
-digits_enough zero n h = rw (lt-ltb n 10 h)
-digits_enough (suc places) n h =
-    ap (λ (l : List ℕ). cond (ltb n 10) [] l ++ last_digit n ∷ [])
-    (digits_enough places (n / 10) (omega (arith, pow-suc 10 (suc places))))
+appends_last =
+    record {
+      one = λ k n h. rw (lt-ltb n 10 h) (ap (λ d. d ∷ []) (omega arith));
+      more = λ k n h. rw (le-ltb n 10 h);
+    }
 
-pub decimal_small : (n : ℕ) → n < 10 → decimal n ≡ last_digit n ∷ []
+pub decimal_printed : (n : ℕ) → n < 2 ^ 64 → decimal n ≡ Fmt·decimal n
 unfolding decimal
-decimal_small n h = digits_step 19 n ∙ (rw (lt-ltb n 10 h))
-
--- the last digit stands after the digits of the tenth
-pub decimal_tens : (n : ℕ) → n < 2 ^ 64 → 10 ≤ n → decimal n ≡ decimal (n / 10) ++ last_digit n ∷ []
-unfolding decimal
-decimal_tens n fits h =
-    digits_step 19 n
-    ∙ (rw (le-ltb n 10 h))
-    ∙ ap (λ (l : List ℕ). l ++ last_digit n ∷ []) (sym (digits_enough 18 (n / 10) (omega arith)))
-
-pub decimal_small_length : (n : ℕ) → n < 10 → length (decimal n) ≡ 1
-decimal_small_length n h = ap length (decimal_small n h)
-
-pub decimal_tens_length : (n : ℕ) → n < 2 ^ 64 → 10 ≤ n → length (decimal n) ≡ length (decimal (n / 10)) + 1
-decimal_tens_length n fits h = ap length (decimal_tens n fits h) ∙ length-append (decimal (n / 10)) _
+decimal_printed n fits = decimal_from_appends digits appends_last 20 n fits (length-decimal-le 20 n (omega arith) (omega arith) fits)
 
 -- the first texts and the next are no longer than all
 joined_length : (f : ℕ → List ℕ) (n : ℕ) {i : ℕ} → i < n → length (joined i f) + length (f i) ≤ length (joined n f)
@@ -158,18 +156,6 @@ module _ {f : ℕ → List ℕ} {n : ℕ} {b b' : List ℕ} {at end i : ℕ} (p 
 
   pub appending_done : n ≤ i → Appended b at (joined n f) b' end
   appending_done h = let e : i ≡ n = omega (arith, p.turns) in rw e at p.text
-
--- a word is the texts of its bytes
-abbrev pub byte_of : List ℕ → ℕ → List ℕ
-byte_of word i = get_or word i 0 ∷ []
-
-bytes_first : (word : List ℕ) (i : ℕ) → i ≤ length word → joined i (byte_of word) ≡ take i word
-unfolding joined
-bytes_first word zero h = refl
-bytes_first word (suc i) h = ap (λ (l : List ℕ). l ++ byte_of word i) (bytes_first word i (omega arith)) ∙ sym (take-suc word i 0 h)
-
-pub bytes_are : (word : List ℕ) → joined (length word) (byte_of word) ≡ word
-bytes_are word = bytes_first word (length word) (omega arith) ∙ take-length word
 
 -- an entry is as long as its word and its numbers
 pub entry_length : (word numbers : List ℕ) → length (entry word numbers) ≡ length word + length (joined (length numbers) (spaced_each numbers))

@@ -16,7 +16,15 @@ pub loop-v-preserved : goal.loop-v-preserved
 loop-v-preserved c =
     let put = c.put_numbered-end in
     appending_turn c.loop-v.invariant (search rules) put.auto.text
-    (rw (← c.wide-lower.ensures, ← c.wide-upper.ensures) put.ensures)
+    (rw (← c.from-lower.ensures, ← c.from-upper.ensures) put.ensures)
 
 pub returns : goal.returns
 returns c = appending_done c.loop-v.invariant (search rules)
+
+-- after the last opening
+pub returns-2 : goal.returns-2
+returns-2 c =
+    let put = c.put_numbered-end in
+    appending_done
+    (appending_turn c.loop-v.invariant (search rules) put.auto.text (rw (← c.from-lower.ensures, ← c.from-upper.ensures) put.ensures))
+    (search rules)

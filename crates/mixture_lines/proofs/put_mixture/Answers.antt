@@ -48,20 +48,20 @@ all_cleared c =
 pub put_group-end-requires : goal.put_group-end-requires
 put_group-end-requires c =
     let left = after_head (goal.at.put_group-end-requires c).After-put_head-end in
-    record { mixture_answerable = c.requires.mixture_answerable; line_room_in_bounds = omega (arith, left.long, left.room) }
+    record { answerable = c.requires.mixture_answerable; line_room_in_bounds = omega (arith, left.long, left.room) }
 
 pub put_group-end-requires-2 : goal.put_group-end-requires-2
 put_group-end-requires-2 c =
     let at = goal.at.put_group-end-requires-2 c in
     let left = after_survive at.After-put_group-end (after_head at.After-put_head-end) in
-    record { mixture_answerable = answerable_still c.requires.mixture_answerable c.put_group-end.ensures.cleared; line_room_in_bounds = omega (arith, left.long, left.room) }
+    record { answerable = answerable_still c.requires.mixture_answerable c.put_group-end.ensures.cleared; line_room_in_bounds = omega (arith, left.long, left.room) }
 
 pub put_group-end-requires-3 : goal.put_group-end-requires-3
 put_group-end-requires-3 c =
     let at = goal.at.put_group-end-requires-3 c in
     let left = after_both at.After-put_group-end-2 (after_survive at.After-put_group-end (after_head at.After-put_head-end)) in
     record {
-      mixture_answerable = answerable_still (answerable_still c.requires.mixture_answerable c.put_group-end.ensures.cleared) c.put_group-end-2.ensures.cleared;
+      answerable = answerable_still (answerable_still c.requires.mixture_answerable c.put_group-end.ensures.cleared) c.put_group-end-2.ensures.cleared;
       line_room_in_bounds = omega (arith, left.long, left.room);
     }
 
@@ -70,7 +70,7 @@ put_group-requires c =
     let at = goal.at.put_group-requires c in
     let left = after_high at.After-put_group-end-3 (after_both at.After-put_group-end-2 (after_survive at.After-put_group-end (after_head at.After-put_head-end))) in
     record {
-      mixture_answerable =
+      answerable =
           answerable_still
           (answerable_still (answerable_still c.requires.mixture_answerable c.put_group-end.ensures.cleared) c.put_group-end-2.ensures.cleared)
           c.put_group-end-3.ensures.cleared;
@@ -84,7 +84,7 @@ returns c =
       written =
           appended_more
           (appended_more
-          (appended_more (appended_more c.put_head-end.ensures c.put_group-end.ensures.written) c.put_group-end-2.ensures.written)
+          (appended_more (appended_more (rw c.head.ensures at c.put_head-end.ensures) c.put_group-end.ensures.written) c.put_group-end-2.ensures.written)
           c.put_group-end-3.ensures.written)
           c.put_group.ensures.written;
       cleared = all_cleared (goal.at.returns c).After-put_group;

@@ -8,4 +8,4 @@ returns-then-refusal-ne0 c =
 
 pub returns : goal.returns
 returns c =
-    rw (answer_shown c.args.answer c.if-refusal-ne0.false) c.put_numbered.ensures
+    rw (answer_shown c.args.answer c.if-refusal-ne0.false, ← c.from-lower.ensures, ← c.from-upper.ensures) c.put_numbered.ensures

@@ -16,7 +16,7 @@ returns-in-Survive c = rw c.in-Survive.is
 
 pub returns-in-Both : goal.returns-in-Both
 unfolding line_range
-returns-in-Both c = rw (c.in-Both.is, c.lesser.ensures)
+returns-in-Both c = rw (c.in-Both.is, c.min.ensures)
 
 pub returns-in-High : goal.returns-in-High
 unfolding line_range

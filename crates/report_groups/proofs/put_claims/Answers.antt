@@ -16,7 +16,15 @@ pub loop-k-preserved : goal.loop-k-preserved
 loop-k-preserved c =
     let put = c.put_numbered-end in
     appending_turn c.loop-k.invariant (search rules) put.auto.text
-    (rw (← c.wide.ensures, ← c.wide-in-loop-k.ensures) put.ensures)
+    (rw (← c.from-low.ensures, ← c.from-high.ensures) put.ensures)
 
 pub returns : goal.returns
 returns c = appending_done c.loop-k.invariant (search rules)
+
+-- after the last place
+pub returns-2 : goal.returns-2
+returns-2 c =
+    let put = c.put_numbered-end in
+    appending_done
+    (appending_turn c.loop-k.invariant (search rules) put.auto.text (rw (← c.from-low.ensures, ← c.from-high.ensures) put.ensures))
+    (search rules)

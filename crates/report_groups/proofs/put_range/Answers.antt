@@ -1,41 +1,23 @@
-use mathlib.Core.Path.{◌≡◌}
-use mathlib.Core.Bool.{false}
 use borrow.Author.Rules.{rules}
-use Rattle.model.specs.Refusal.{outside}
 use Rattle.text.proofs.TextLaws.{appending_room_each}
-use Rattle.report_lines.specs.Asking.{Answerable}
-use Rattle.report_lines.proofs.AskingLaws.{cleared_long, answerable_still, asked_clears}
 use Rattle.report_lines.specs.Lines.{line_room}
-use Rattle.report_lines.proofs.LineLaws.{question_short}
 use Rattle.report_groups.proofs.GroupLaws.{putting_none, putting_more, putting_done}
 use Rattle.report_groups.proofs.put_range.Goals as goal
-use Rattle.report_groups.proofs.put_range.Goals.{After-numbered, At-loop-i}
-
--- the workspace can answer the next question
-answerable : (c : At-loop-i) → Answerable c.args.head c.args.row.now c.loop-i.workspace
-answerable c = answerable_still c.requires.answerable c.loop-i.invariant.space
-
--- and the question is within the limits
-within : (c : After-numbered) → outside c.numbered.result ≡ false
-within c = rw c.numbered.ensures (c.requires.lines_fit.within c.loop-i.i (search rules))
 
 pub loop-i-init : goal.loop-i-init
-loop-i-init c = putting_none (search rules)
+loop-i-init g c = putting_none (search rules)
 
-pub put_question-end-requires : goal.put_question-end-requires
-put_question-end-requires c = record { answerable = answerable (goal.at.put_question-end-requires c).At-loop-i; question_value = within (goal.at.put_question-end-requires c).After-numbered; line_room_in_bounds = appending_room_each c.loop-i.invariant.lines line_room (λ i. question_short _ _) (search rules) c.requires.lines_fit.room }
+pub put_question-end-requires-clause-answerable : goal.put_question-end-requires-clause-answerable
+put_question-end-requires-clause-answerable g c = g.met.A.Asked.still _ _ _ _ c.requires.answerable c.loop-i.invariant.space
+
+pub put_question-end-requires-clause-line_room_in_bounds : goal.put_question-end-requires-clause-line_room_in_bounds
+put_question-end-requires-clause-line_room_in_bounds g c =
+    appending_room_each c.loop-i.invariant.lines line_room (λ i. g.met.A.Asked.short _ _) (search rules) c.requires.lines_fit.room
 
 pub loop-i-preserved : goal.loop-i-preserved
-loop-i-preserved c =
+loop-i-preserved g c =
     let put = c.put_question-end in
-    putting_more c.loop-i.invariant c.numbered.result c.numbered.ensures (search rules) put.auto.text put.ensures.written
-    (asked_clears (answerable (goal.at.loop-i-preserved c).At-loop-i) _ (within (goal.at.loop-i-preserved c).After-numbered) put.ensures.cleared)
-
-pub shape_of-text : goal.shape_of-text
-shape_of-text c = c.loop-i.invariant.lines.long
-
-pub shape_of-workspace : goal.shape_of-workspace
-shape_of-workspace c = cleared_long c.requires.answerable.room c.loop-i.invariant.space
+    putting_more c.loop-i.invariant c.numbered.result c.numbered.ensures (search rules) put.auto.text put.ensures.written put.ensures.cleared
 
 pub returns : goal.returns
-returns c = let both = putting_done c.loop-i.invariant (search rules) in record { written = both.0; cleared = both.1 }
+returns g c = let both = putting_done c.loop-i.invariant (search rules) in record { written = both.0; cleared = both.1 }

@@ -1,5 +1,0 @@
--- The cycle of calls {put_number} ends: the number falls.
-use Rattle.text.proofs.+put_number.Given as goal
-
-abbrev pub decreases-put_number : goal.decreases-put_number
-decreases-put_number l = l.x
