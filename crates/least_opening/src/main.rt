@@ -33,17 +33,15 @@ fn answer(rt: &HostRuntime, target: u32) {
         b"least_opening: standard input",
         &mut rt.stderr(),
     );
-    let n = input.length;
-    let failed = input.failed;
-    if !failed {
-        print(rt, &bytes[..n], target);
+    if let Ok(read) = input {
+        print(rt, &bytes[..read.length], target);
     }
 }
 
 fn print(rt: &HostRuntime, bytes: &[u8], target: u32) {
     let mut text = [0u8; quote::TEXT];
     let n = quote::quote(bytes, target, &mut text);
-    streams::write_all(
+    let _ = streams::write_all(
         &mut rt.stdout(),
         &text[..n],
         b"least_opening: standard output",

@@ -10,17 +10,15 @@ fn main(rt: HostRuntime) {
         b"mix_report: standard input",
         &mut rt.stderr(),
     );
-    let n = input.length;
-    let failed = input.failed;
-    if !failed {
-        print(&rt, &bytes[..n]);
+    if let Ok(read) = input {
+        print(&rt, &bytes[..read.length]);
     }
 }
 
 fn print(rt: &HostRuntime, bytes: &[u8]) {
     let mut text = [0u8; mixture_text::TEXT];
     let n = mixture_text::report(bytes, &mut text);
-    streams::write_all(
+    let _ = streams::write_all(
         &mut rt.stdout(),
         &text[..n],
         b"mix_report: standard output",

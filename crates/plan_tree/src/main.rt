@@ -5,23 +5,18 @@
 ghost use Rattle.std.specs.Prelude.{◌≤◌, length};
 
 use model::Question;
-use numbers::difference;
 use std::env::{Env, FillError};
 
 // The program's name is counted too. Where the arguments are no question nothing is read.
 fn main(rt: HostRuntime) {
-    let count = difference(argument_count(&rt), 1);
+    let count = argument_count(&rt).saturating_sub(1);
     let mut word = io::buffer();
     let mut number = io::buffer();
     let w = argument(&rt, 1, &mut word);
     let n = argument(&rt, 2, &mut number);
-    let asked = arguments::question_of(count, &word[..w], &number[..n]);
-    let readable = asked.readable;
-    let question = asked.question;
-    if readable {
-        answer(&rt, question);
-    } else {
-        say(&rt);
+    match arguments::question_of(count, &word[..w], &number[..n]) {
+        Some(question) => answer(&rt, question),
+        None => say(&rt),
     }
 }
 
@@ -34,34 +29,30 @@ fn answer(rt: &HostRuntime, question: Question) {
         b"plan_tree: standard input",
         &mut rt.stderr(),
     );
-    let n = input.length;
-    let failed = input.failed;
-    if !failed {
-        print(rt, &bytes[..n], question);
+    if let Ok(read) = input {
+        print(rt, &bytes[..read.length], question);
     }
 }
 
 // Part by part, up to one that could not be written.
 fn print(rt: &HostRuntime, bytes: &[u8], question: Question) {
-    let mut month = 0;
-    while month < tree_text::PARTS {
+    for month in 0..tree_text::PARTS {
         if !print_part(rt, bytes, question, month) {
             return;
         }
-        month += 1;
     }
 }
 
 fn print_part(rt: &HostRuntime, bytes: &[u8], question: Question, month: usize) -> bool {
     let mut text = [0u8; tree_text::TEXT];
     let n = tree_text::tree(bytes, question, month, &mut text);
-    let output = streams::write_all(
+    streams::write_all(
         &mut rt.stdout(),
         &text[..n],
         b"plan_tree: standard output",
         &mut rt.stderr(),
-    );
-    output.whole
+    )
+    .is_ok()
 }
 
 // How to call the program.
@@ -85,8 +76,5 @@ fn argument_count(rt: &HostRuntime) -> usize {
 fn argument(rt: &HostRuntime, i: usize, buffer: &mut [u8]) -> usize
     ensures { result ≤ length buffer.new }
 {
-    match rt.arg(i, buffer) {
-        Ok(n) => n,
-        Err(_) => 0,
-    }
+    rt.arg(i, buffer).unwrap_or(0)
 }

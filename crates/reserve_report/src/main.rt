@@ -10,17 +10,15 @@ fn main(rt: HostRuntime) {
         b"reserve_report: standard input",
         &mut rt.stderr(),
     );
-    let n = input.length;
-    let failed = input.failed;
-    if !failed {
-        print(&rt, &bytes[..n]);
+    if let Ok(read) = input {
+        print(&rt, &bytes[..read.length]);
     }
 }
 
 fn print(rt: &HostRuntime, bytes: &[u8]) {
     let mut text = io::large_buffer();
     let n = report_text::report(bytes, &mut text);
-    streams::write_all(
+    let _ = streams::write_all(
         &mut rt.stdout(),
         &text[..n],
         b"reserve_report: standard output",

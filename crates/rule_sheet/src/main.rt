@@ -11,10 +11,8 @@ fn main(rt: HostRuntime) {
         b"rule_sheet: standard input",
         &mut rt.stderr(),
     );
-    let n = input.length;
-    let failed = input.failed;
-    if !failed {
-        convert(&rt, &bytes[..n]);
+    if let Ok(read) = input {
+        convert(&rt, &bytes[..read.length]);
     }
 }
 
@@ -27,7 +25,7 @@ fn convert(rt: &HostRuntime, bytes: &[u8]) {
     if refusal != 0 {
         refuse(rt, refusal);
     } else {
-        streams::write_all(
+        let _ = streams::write_all(
             &mut rt.stdout(),
             &plan[..n],
             b"rule_sheet: standard output",

@@ -1,6 +1,7 @@
 -- How far a stream was read or written, and what the system answered last.
-use Rattle.std.specs.Prelude.{ℕ, ◌≤◌, ◌<◌, ◌≡◌, T, ℤ, pos, negsuc}
+use Rattle.std.specs.Prelude.{ℕ, ◌≤◌, ◌<◌, ◌≡◌, T, ℤ, pos, negsuc, Option, None, Some, Result, Ok, Err}
 use Rattle.std.specs.Int.Signed.{non_neg}
+use Rattle.streams.specs.declared.Reach.{Reach}
 
 -- what a call that is handed n bytes may answer: -1, or how many bytes it moved, at most n
 abbrev pub Moved : ℕ → ℤ → Type 0
@@ -14,3 +15,13 @@ pub record Reached (size n : ℕ) (z : ℤ) : Type 0 where
   pub last : Moved n z
   pub short : n < size → Moved 0 z
   pub full : n ≡ size → T (non_neg z)
+
+-- the system's last answer as one number, -1 for a failure
+abbrev pub answer_of : Option ℕ → ℤ
+answer_of None = negsuc 0
+answer_of (Some k) = pos k
+
+-- how far a stream was moved, whether that went well or not
+abbrev pub reach_of : Result Reach Reach → Reach
+reach_of (Ok r) = r
+reach_of (Err r) = r

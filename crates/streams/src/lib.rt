@@ -1,30 +1,20 @@
 // Streams read and written whole by the programs. Where reading or writing fails, one line on the errors' writer, standard error, says of what, and why;
 // otherwise nothing is written there. Of that line no contract can speak, nor of what the system gives and takes: `test_failures` holds both to expected
-// lines. Each line stands in one branch with the answer that it goes with, so that the contract holds the test of the branch.
+// lines. Each line stands in one branch with the `Err` that it goes with, so that the contract holds the test of the branch.
 #![tactic(auto)]
 
-ghost use Rattle.std.specs.Prelude.{◌≡◌, not, eqb, length};
+ghost use Rattle.std.specs.Prelude.{◌≡◌, not, eqb, length, is_ok, is_err};
 ghost use Rattle.std.specs.Int.Signed.{non_neg};
 ghost use Rattle.io.specs.Counts.{IsPrefixLen};
-ghost use Rattle.streams.specs.Reached.{Moved, Reached};
+ghost use Rattle.streams.specs.Reached.{Reached, reach_of, answer_of};
 
 use std::io::{Cursor, Error, Read, Write};
 
-// What was read: so many bytes at the start of the buffer, whether a read failed before the input ended, and what the system answered last, 0 where it
-// was asked nothing.
+// How far a stream was read or written: so many bytes, and how many of them the system moved last, none where it failed, 0 where it was asked nothing.
 #[derive(Clone, Copy)]
-pub struct Input {
+pub struct Reach {
     pub length: usize,
-    pub failed: bool,
-    pub answer: isize,
-}
-
-// What was written: so many bytes from the start of the text on, whether these are all, and what the system answered last, 0 where it was asked nothing.
-#[derive(Clone, Copy)]
-pub struct Output {
-    pub length: usize,
-    pub whole: bool,
-    pub answer: isize,
+    pub last: Option<usize>,
 }
 
 // Reads until the buffer is full, the input ends or a read fails. `within` is for a caller that takes the first bytes of the buffer.
@@ -33,35 +23,29 @@ pub fn read_all<R: Read, E: Write>(
     buffer: &mut [u8],
     what: &[u8],
     errors: &mut E,
-) -> Input
-    ensures within { IsPrefixLen result.length buffer.new }
-    ensures reached { Reached (length buffer.new) result.length result.answer }
-    ensures failed { result.failed ≡ not (non_neg result.answer) }
+) -> Result<Reach, Reach>
+    ensures within { IsPrefixLen (reach_of result).length buffer.new }
+    ensures reached { Reached (length buffer.new) (reach_of result).length (answer_of (reach_of result).last) }
+    ensures failed { is_err result ≡ not (non_neg (answer_of (reach_of result).last)) }
 {
     let mut length = 0;
-    let mut answer = 0;
-    let mut error = Error::from_raw_os_error(0);
+    let mut last = Some(0);
     while length < buffer.len() {
-        answer = read(reader, &mut buffer[length..], &mut error);
-        let more = io::count(answer, &buffer[length..]);
-        if more == 0 {
-            break;
+        match reader.read(&mut buffer[length..]) {
+            Ok(more) => {
+                length += more;
+                last = Some(more);
+                if more == 0 {
+                    return Ok(Reach { length, last });
+                }
+            }
+            Err(error) => {
+                fail(errors, what, error);
+                return Err(Reach { length, last: None });
+            }
         }
-        length += more;
     }
-    if answer < 0 {
-        fail(errors, what, error);
-        return Input {
-            length,
-            failed: true,
-            answer,
-        };
-    }
-    Input {
-        length,
-        failed: false,
-        answer,
-    }
+    Ok(Reach { length, last })
 }
 
 // Writes until all of the text is written or the system takes nothing of what is left.
@@ -70,60 +54,38 @@ pub fn write_all<W: Write, E: Write>(
     text: &[u8],
     what: &[u8],
     errors: &mut E,
-) -> Output
-    ensures reached { Reached (length text.now) result.length result.answer }
-    ensures whole { result.whole ≡ eqb result.length (length text.now) }
+) -> Result<Reach, Reach>
+    ensures reached { Reached (length text.now) (reach_of result).length (answer_of (reach_of result).last) }
+    ensures whole { is_ok result ≡ eqb (reach_of result).length (length text.now) }
 {
     let mut written = 0;
-    let mut answer = 0;
-    let mut error = Error::from_raw_os_error(0);
+    let mut last = Some(0);
+    let mut why = Error::from_raw_os_error(0);
     while written < text.len() {
-        answer = write(writer, &text[written..], &mut error);
-        let taken = io::count(answer, &text[written..]);
-        if taken == 0 {
-            break;
+        match writer.write(&text[written..]) {
+            Ok(taken) => {
+                written += taken;
+                last = Some(taken);
+                if taken == 0 {
+                    break;
+                }
+            }
+            Err(error) => {
+                why = error;
+                last = None;
+                break;
+            }
         }
-        written += taken;
     }
-    if written < text.len() {
-        fail(errors, what, error);
-        return Output {
-            length: written,
-            whole: false,
-            answer,
-        };
-    }
-    Output {
+    let reach = Reach {
         length: written,
-        whole: true,
-        answer,
+        last,
+    };
+    if written < text.len() {
+        fail(errors, what, why);
+        return Err(reach);
     }
-}
-
-// What one read answers: how many bytes it put at the start of the buffer, or -1, and then the error is why.
-fn read<R: Read>(reader: &mut R, buffer: &mut [u8], error: &mut Error) -> isize
-    ensures { Moved (length buffer.old) result }
-{
-    match reader.read(buffer) {
-        Ok(n) => n as isize,
-        Err(why) => {
-            *error = why;
-            -1
-        }
-    }
-}
-
-// What one write answers: how many of the first bytes it took, or -1, and then the error is why.
-fn write<W: Write>(writer: &mut W, text: &[u8], error: &mut Error) -> isize
-    ensures { Moved (length text.now) result }
-{
-    match writer.write(text) {
-        Ok(n) => n as isize,
-        Err(why) => {
-            *error = why;
-            -1
-        }
-    }
+    Ok(reach)
 }
 
 // The line: what failed, a colon and why, in the system's words. Where it cannot be written there is no place left to say so.

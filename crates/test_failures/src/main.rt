@@ -5,6 +5,7 @@
 use std::fs;
 use std::fs::File;
 use std::io::{Read, Result};
+use streams::Reach;
 
 // What stands in place of standard error, and what reads it.
 #[derive(Drop)]
@@ -46,7 +47,7 @@ fn read(rt: &HostRuntime, what: &str, mut file: File, errors: &mut Errors) -> Re
     let mut bytes = [0u8; 4096];
     let input = streams::read_all(&mut file, &mut bytes, what.as_bytes(), &mut errors.written);
     print!(rt; "read ")?;
-    answer(rt, what, !input.failed, input.length, errors)
+    answer(rt, what, input, errors)
 }
 
 fn write(rt: &HostRuntime, what: &str, mut file: File, errors: &mut Errors) -> Result<()> {
@@ -57,20 +58,18 @@ fn write(rt: &HostRuntime, what: &str, mut file: File, errors: &mut Errors) -> R
         &mut errors.written,
     );
     print!(rt; "write ")?;
-    answer(rt, what, output.whole, output.length, errors)
+    answer(rt, what, output, errors)
 }
 
 fn answer(
     rt: &HostRuntime,
     what: &str,
-    well: bool,
-    length: usize,
+    moved: std::result::Result<Reach, Reach>,
     errors: &mut Errors,
 ) -> Result<()> {
-    if well {
-        println!(rt; "{what}: went well, bytes {length}")?;
-    } else {
-        println!(rt; "{what}: failed, bytes {length}")?;
+    match moved {
+        Ok(reach) => println!(rt; "{what}: went well, bytes {}", reach.length)?,
+        Err(reach) => println!(rt; "{what}: failed, bytes {}", reach.length)?,
     }
     said(rt, errors)
 }

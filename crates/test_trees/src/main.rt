@@ -19,7 +19,7 @@ fn main() {
     print_trees(&records[..n]);
 }
 
-// A record that is cut off, since the input ends, has no tree.
+// A record that is cut off, since the input ends, has no tree. Each turn is as long as its record, so that no `for` goes over them.
 fn print_trees(records: &[u8]) {
     let mut at = 0;
     while 2 <= records.len() - at {
@@ -51,10 +51,8 @@ fn question(kind: u8, number: usize) -> Question {
 }
 
 fn print_tree(plan: &[u8], question: Question) {
-    let mut month = 0;
-    while month < tree_text::PARTS {
+    for month in 0..tree_text::PARTS {
         print_part(plan, question, month);
-        month += 1;
     }
 }
 

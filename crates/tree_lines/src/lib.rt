@@ -9,7 +9,6 @@ ghost use Rattle.plain_engine.specs.Steps.{Terms};
 ghost use Rattle.tree_values.specs.Lines.{claim_text, claim_texts, branch_texts, node_text};
 
 use model::Question;
-use numbers::{lesser, wide};
 use plain_engine::steps::{claims_after, followed};
 use ruin_rows::ruin_weight;
 use text::{put_entry, put_line};
@@ -33,7 +32,7 @@ fn put_claim(
     requires place_in_bounds { at + length (claim_text question severity.now month later.now left level (suc place)) ≤ length text.old }
     ensures { Appended text.old at (claim_text question severity.now month later.now left level (suc place)) text.new result }
 {
-    let weight = wide(severity[place]);
+    let weight = u64::from(severity[place]);
     if weight == 0 {
         return at;
     }
@@ -72,12 +71,9 @@ fn put_claims(
     requires level_in_bounds { at + length (claim_texts question severity.now month later.now left level) ≤ length text.old }
     ensures { Appended text.old at (claim_texts question severity.now month later.now left level) text.new result }
 {
-    let most = lesser(level, severity.len());
     let mut end = at;
-    let mut i = 0;
-    while i < most {
+    for i in 0..level.min(severity.len()) {
         end = put_claim(text, end, question, month, later, severity, left, level, i);
-        i += 1;
     }
     end
 }
@@ -100,7 +96,7 @@ fn put_branches(
     ensures { Appended text.old at (branch_texts question severity.now tail month chances.now left level) text.new result }
 {
     let later = &chances[1..];
-    let chance = [wide(chances[0])];
+    let chance = [u64::from(chances[0])];
     let ruins = [ruin_weight(severity, tail, level + 1)];
     let end = put_line(text, at, b"  chance", &chance);
     let end = put_value(
@@ -139,7 +135,7 @@ pub fn put_node(
     let end = put_value(
         text, end, b" level", question, month, chances, severity, left, level,
     );
-    if chances.len() < 1 {
+    if chances.is_empty() {
         return end;
     }
     if !node_allowed(question, month, level) {

@@ -1,7 +1,7 @@
 -- Which nodes there can be: after t months no level is above u + t, no more claims are left than are asked, and at most t fewer.
 use Prim.Native.Nat.{ℕ, zero, suc, ◌+◌, ◌*◌, ◌-◌, ◌≤◌, ◌<◌, min}
 use mathlib.Core.Path.{◌≡◌, refl, ap₂}
-use mathlib.Core.Bool.{Bool, true, false, ◌&&◌, ◌||◌}
+use mathlib.Core.Bool.{Bool, false, ◌&&◌, ◌||◌}
 use mathlib.Core.List.{List, [], ◌∷◌}
 use mathlib.Core.Option.{Option, none, some}
 use native.Mathlib.Omega.{arith}
@@ -17,10 +17,7 @@ use Rattle.model.specs.MonthRule.{rule_of, claims_of, one_fewer}
 use Rattle.model.proofs.SumLaws.{none_to}
 use Rattle.plain_engine.specs.Steps.{left_after, sizes_followed}
 use Rattle.tree_nodes.specs.Nodes.{node_allowed, branches, leads, reached}
-
-and_false : (a b : Bool) → b ≡ false → a && b ≡ false
-and_false true b e = e
-and_false false b e = refl
+use Rattle.tree_nodes.proofs.NodeLaws.{and_false}
 
 -- one claim fewer at most after a claim
 pub after_claim_near : (q : Question) (k j : ℕ) → (rule_of q).after_claim k ≡ some j → (j ≤ k) × (k ≤ j + 1)

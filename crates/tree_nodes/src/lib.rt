@@ -1,18 +1,18 @@
 // The nodes of a small plan's tree: which levels are followed, and which nodes are reached from the opening.
 #![tactic(auto)]
 
-ghost use Rattle.std.specs.Prelude.{◌≡◌, ◌&&◌, ◌||◌, ◌+◌, ◌*◌, ◌-◌, ◌^◌, ◌<◌, ltb, length};
+ghost use Rattle.std.specs.Prelude.{◌≡◌, ◌+◌, ◌*◌, ◌-◌, ◌^◌, ◌<◌, ltb, length};
 ghost use Rattle.model.specs.Scale.{S};
 ghost use Rattle.tree_nodes.specs.Nodes.{node_allowed};
 ghost use Rattle.tree_nodes.specs.Nodes.{leads as Nodes·leads};
 
 use model::{Question, SCALE};
-use numbers::{lesser, product};
+use numbers::product;
 use plain_engine::steps::{claims_after, followed, level_allowed};
 use questions::needs::opening_allowed;
 
 // A node of a month: its level and, for both, the claims left to place.
-#[derive(Clone, Copy)]
+#[derive(Clone, Copy, PartialEq)]
 pub struct Node {
     pub left: usize,
     pub level: usize,
@@ -26,18 +26,6 @@ pub fn node_allowed(question: Question, month: usize, level: usize) -> bool
         return opening_allowed(question, level);
     }
     level_allowed(question, level)
-}
-
-fn both(a: bool, b: bool) -> bool
-    ensures { result ≡ a && b }
-{
-    if a { b } else { false }
-}
-
-fn either(a: bool, b: bool) -> bool
-    ensures { result ≡ a || b }
-{
-    if a { true } else { b }
 }
 
 // Whether a month with this chance may pass without a claim.
@@ -67,21 +55,28 @@ pub fn leads(
     requires { (month + length chances.now < 2 ^ 64) × (level + length chances.now < 2 ^ 64) }
     ensures { result ≡ Nodes·leads question severity.now month chances.now target.left target.level left level }
 {
-    if chances.len() < 1 {
-        return both(left == target.left, level == target.level);
+    if chances.is_empty() {
+        return Node { left, level } == target;
+    }
+    if !node_allowed(question, month, level) {
+        return false;
     }
     let later = &chances[1..];
     let next = month + 1;
     let chance = chances[0];
-    let quiet = leads(question, next, later, severity, left, level + 1, target);
-    let mut found = both(may_pass(chance), quiet);
-    let fewer = claims_after(question, left);
-    let most = followed(question, left, lesser(level, severity.len()));
-    let mut x = 0;
-    while x < most {
-        let claimed = leads(question, next, later, severity, fewer, level - x, target);
-        found = either(found, both(may_come(chance, severity[x]), claimed));
-        x += 1;
+    if may_pass(chance) && leads(question, next, later, severity, left, level + 1, target) {
+        return true;
     }
-    both(node_allowed(question, month, level), found)
+    let fewer = claims_after(question, left);
+    let most = followed(question, left, level.min(severity.len()));
+    for x in 0..most {
+        let weight = severity[x];
+        let below = level - x;
+        if may_come(chance, weight)
+            && leads(question, next, later, severity, fewer, below, target)
+        {
+            return true;
+        }
+    }
+    false
 }

@@ -21,7 +21,8 @@ use Rattle.model.specs.Refusal.{Accepted, outside, read_refusal}
 use Rattle.model.proofs.Facts.{facts}
 use Rattle.model.proofs.Values.{take_fits}
 use Rattle.engine.proofs.AnswerLaws.{severity_lent}
-use Rattle.text.specs.Text.{joined}
+use Rattle.text.specs.Text.{joined, Appended}
+use Rattle.text.proofs.TextLaws.{Appending, appending_start, appending_room, appending_turn}
 use Rattle.report_lines.specs.Lines.{refused_line}
 use Rattle.plain_engine.specs.Answers.{plain_refusal}
 use Rattle.plain_engine.proofs.Theorems.{Taken, taken}
@@ -64,12 +65,34 @@ node_terms {q} {u} {Ps} {F} {tail} {t} h s l =
       levels_fit = omega (arith, length-drop t Ps, h.months_few, h.opening_low, h.ended);
     }
 
--- the nodes of a level, with so many claims to place
-abbrev pub node_to : Question → Plan → ℕ → ℕ → ℕ → ℕ → List ℕ
-node_to q p t s most j = node_if q p t s (most - j)
+-- A loop that goes down from the highest number: before the turn of x, the texts of those above it are appended.
+abbrev pub falling : (ℕ → List ℕ) → ℕ → ℕ → List ℕ
+falling f top i = f (top - i)
 
-pub level_nodes : (q : Question) (p : Plan) (t s most last : ℕ) → most ≡ claims_of q → last ≡ min t most → level_text q p t s ≡ joined (last + 1) (node_to q p t s most)
-level_nodes q p t s most last em el = rw (el, em)
+pub record Falling (f : ℕ → List ℕ) (top n : ℕ) (b : List ℕ) (at : ℕ) (b' : List ℕ) (end x : ℕ) : Type 0 where
+  pub done : Appending (falling f top) n b at b' end (top - x)
+
+pub falling_start : {f : ℕ → List ℕ} {n : ℕ} {b : List ℕ} {at : ℕ} (top : ℕ) → at ≤ length b → Falling f top n b at b at top
+falling_start top h = let none : top - top ≡ 0 = omega arith in record { done = rw none (appending_start h) }
+
+module _ {f : ℕ → List ℕ} {n : ℕ} {b b' : List ℕ} {at end top x : ℕ} (p : Falling f top n b at b' end x) (low : x ≤ top) (h : top - x < n) where
+  pub falling_room : at + length (joined n (falling f top)) ≤ length b → end + length (f x) ≤ length b'
+  falling_room room = let here : top - (top - x) ≡ x = omega arith in rw here at (appending_room p.done h room)
+
+  pub falling_turn : {b'' : List ℕ} {end' : ℕ} → length b'' ≡ length b' → Appended b' end (f x) b'' end' → Appending (falling f top) n b at b'' end' (top - x + 1)
+  falling_turn same q = let here : top - (top - x) ≡ x = omega arith in appending_turn p.done h same (rw here q)
+
+pub falling_on :
+    {f : ℕ → List ℕ} {n : ℕ} {b b' : List ℕ} {at end top x : ℕ} → 0 < x → x ≤ top → Appending (falling f top) n b at b' end (top - x + 1) → Falling f top n b at b' end (x - 1)
+falling_on {top = top} {x = x} some low h = let next : top - (x - 1) ≡ top - x + 1 = omega arith in record { done = rw next h }
+
+-- the nodes of a level, from so many claims to place down to those that so many months leave
+pub level_nodes :
+    (q : Question) (p : Plan) (t s most least : ℕ) → most ≡ claims_of q → least ≡ most - t →
+    level_text q p t s ≡ joined (most - least + 1) (falling (node_if q p t s) most)
+level_nodes q p t s most least em el =
+    let count : claims_of q - (claims_of q - t) ≡ min t (claims_of q) = omega arith in
+    rw (el, em, count)
 
 -- a question within its limits has few claims to place
 claims_within : (q : Question) → outside q ≡ false → claims_of q ≤ max_claims

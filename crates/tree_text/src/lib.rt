@@ -11,7 +11,6 @@ ghost use Rattle.tree_text.specs.Terms.{SmallTerms};
 
 use codec::read_plan;
 use model::{Ask, Head, Question, limits};
-use numbers::lesser;
 use plain_engine::refusal;
 use plain_engine::value::claims_to_place;
 use plan::lengths::row_length;
@@ -104,20 +103,10 @@ fn put_month(
 {
     let top = opening + month;
     let mut end = 0;
-    let mut i = 0;
-    while i <= top {
+    for level in (0..=top).rev() {
         end = put_level(
-            text,
-            end,
-            question,
-            month,
-            opening,
-            chances,
-            severity,
-            tail,
-            top - i,
+            text, end, question, month, opening, chances, severity, tail, level,
         );
-        i += 1;
     }
     end
 }
@@ -140,23 +129,12 @@ fn put_level(
     ensures { Appended text.old at (level_text question (small_plan opening chances.now severity.now tail) month level) text.new result }
 {
     let most = claims_to_place(question);
-    let last = lesser(month, most);
+    let least = most.saturating_sub(month);
     let mut end = at;
-    let mut j = 0;
-    while j <= last {
+    for left in (least..=most).rev() {
         end = put_reached(
-            text,
-            end,
-            question,
-            month,
-            opening,
-            chances,
-            severity,
-            tail,
-            most - j,
-            level,
+            text, end, question, month, opening, chances, severity, tail, left, level,
         );
-        j += 1;
     }
     end
 }

@@ -39,7 +39,7 @@ fn put_place(
     requires { at + length (place_text word.now question left level allowed bounds) ≤ length text.old }
     ensures { Appended text.old at (place_text word.now question left level allowed bounds) text.new result }
 {
-    let numbers = [bounds.lower as u64, bounds.upper as u64];
+    let numbers = [u64::from(bounds.lower), u64::from(bounds.upper)];
     let end = put_entry(text, at, word, &[level as u64]);
     let end = put_left(text, end, question, left);
     if allowed {

@@ -2,11 +2,12 @@
 use Prim.Native.Nat.{◌-◌}
 use mathlib.Core.Path.{◌≡◌}
 use lib.ListN.{length}
+use Rattle.streams.specs.Reached.{answer_of}
 use Rattle.streams.proofs.ReachedLaws.{Going}
 use Rattle.streams.proofs.read_all.Given as goal
 
 abbrev pub invariant-loop-length : goal.invariant-loop-length
-invariant-loop-length g l = Going (length l.initial.buffer) l.length l.answer × (length l.buffer ≡ length l.initial.buffer)
+invariant-loop-length g l = Going (length l.initial.buffer) l.length (answer_of l.last) × (length l.buffer ≡ length l.initial.buffer)
 
 abbrev pub decreases-loop-length : goal.decreases-loop-length
 decreases-loop-length g l = length l.initial.buffer - l.length

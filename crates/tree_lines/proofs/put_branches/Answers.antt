@@ -33,21 +33,21 @@ ruin_text n = line (ascii "  ruin weight") (n ∷ [])
 parts :
     (c : After-ruin_weight) → let a = c.args in
     branch_texts a.question a.severity.now a.tail a.month a.chances.now a.left a.level
-    ≡ chance_text c.wide.result
+    ≡ chance_text c.from.result
     ++ quiet_text a.question a.severity.now a.month a.chances.now a.left a.level
     ++ sizes_text a.question a.severity.now a.month a.chances.now a.left a.level
     ++ ruin_text c.ruin_weight.result
 parts c =
     let a = c.args in
-    branch_parts a.question a.severity.now a.tail a.month a.chances.now a.left a.level c.wide.result c.ruin_weight.result c.requires.chances_nonzero.0
-    c.wide.ensures c.ruin_weight.ensures
+    branch_parts a.question a.severity.now a.tail a.month a.chances.now a.left a.level c.from.result c.ruin_weight.result c.requires.chances_nonzero.0
+    c.from.ensures c.ruin_weight.ensures
 
 -- room for the first parts
 room_all :
     (c : After-ruin_weight) → let a = c.args in
     a.at
     + length
-    (chance_text c.wide.result
+    (chance_text c.from.result
     ++ quiet_text a.question a.severity.now a.month a.chances.now a.left a.level
     ++ sizes_text a.question a.severity.now a.month a.chances.now a.left a.level
     ++ ruin_text c.ruin_weight.result)
@@ -58,30 +58,30 @@ room_three :
     (c : After-ruin_weight) → let a = c.args in
     a.at
     + length
-    (chance_text c.wide.result
+    (chance_text c.from.result
     ++ quiet_text a.question a.severity.now a.month a.chances.now a.left a.level
     ++ sizes_text a.question a.severity.now a.month a.chances.now a.left a.level)
     ≤ length a.text.now
 room_three c =
     let a = c.args in
     room_first a.at
-    (chance_text c.wide.result
+    (chance_text c.from.result
     ++ quiet_text a.question a.severity.now a.month a.chances.now a.left a.level
     ++ sizes_text a.question a.severity.now a.month a.chances.now a.left a.level)
     (ruin_text c.ruin_weight.result) (room_all c)
 
 room_two :
     (c : After-ruin_weight) → let a = c.args in
-    a.at + length (chance_text c.wide.result ++ quiet_text a.question a.severity.now a.month a.chances.now a.left a.level) ≤ length a.text.now
+    a.at + length (chance_text c.from.result ++ quiet_text a.question a.severity.now a.month a.chances.now a.left a.level) ≤ length a.text.now
 room_two c =
     let a = c.args in
-    room_first a.at (chance_text c.wide.result ++ quiet_text a.question a.severity.now a.month a.chances.now a.left a.level)
+    room_first a.at (chance_text c.from.result ++ quiet_text a.question a.severity.now a.month a.chances.now a.left a.level)
     (sizes_text a.question a.severity.now a.month a.chances.now a.left a.level) (room_three c)
 
 -- what is written so far
 two_written :
     (c : After-put_value-end) → let a = c.args in
-    Appended a.text.now a.at (chance_text c.wide.result ++ quiet_text a.question a.severity.now a.month a.chances.now a.left a.level) c.put_value-end.new.text c.put_value-end.result
+    Appended a.text.now a.at (chance_text c.from.result ++ quiet_text a.question a.severity.now a.month a.chances.now a.left a.level) c.put_value-end.new.text c.put_value-end.result
 two_written c = appended_more c.put_line-end.ensures c.put_value-end.ensures
 
 two_long : (c : After-put_value-end) → length c.put_value-end.new.text ≡ length c.args.text.now
@@ -90,7 +90,7 @@ two_long c = c.put_value-end.auto.text ∙ c.put_line-end.auto.buffer
 three_written :
     (c : After-put_claims-end) → let a = c.args in
     Appended a.text.now a.at
-    (chance_text c.wide.result
+    (chance_text c.from.result
     ++ quiet_text a.question a.severity.now a.month a.chances.now a.left a.level
     ++ sizes_text a.question a.severity.now a.month a.chances.now a.left a.level)
     c.put_claims-end.new.text c.put_claims-end.result
@@ -99,7 +99,7 @@ three_written c = appended_more (appended_more c.put_line-end.ensures c.put_valu
 pub put_line-end-requires : goal.put_line-end-requires
 put_line-end-requires c =
     let a = c.args in
-    room_first a.at (chance_text c.wide.result) (quiet_text a.question a.severity.now a.month a.chances.now a.left a.level) (room_two (goal.at.put_line-end-requires c).After-ruin_weight)
+    room_first a.at (chance_text c.from.result) (quiet_text a.question a.severity.now a.month a.chances.now a.left a.level) (room_two (goal.at.put_line-end-requires c).After-ruin_weight)
 
 pub put_value-end-requires : goal.put_value-end-requires
 put_value-end-requires c =

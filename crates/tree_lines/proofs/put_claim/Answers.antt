@@ -21,24 +21,24 @@ rest q F t later k s place = claimed_text q F (t + 1) later ((rule_of q).after_c
 parts :
     (c : Else-weight-eq0) → let a = c.args in
     claim_text a.question a.severity.now a.month a.later.now a.left a.level (suc a.place)
-    ≡ claim_first (a.place + 1) c.wide-weight.result ++ rest a.question a.severity.now a.month a.later.now a.left a.level a.place
+    ≡ claim_first (a.place + 1) c.from-weight.result ++ rest a.question a.severity.now a.month a.later.now a.left a.level a.place
 parts c =
     let a = c.args in
-    claim_filled a.question a.severity.now a.month a.later.now a.left a.level a.place c.wide-weight.result c.wide-weight.ensures c.if-weight-eq0.false
+    claim_filled a.question a.severity.now a.month a.later.now a.left a.level a.place c.from-weight.result c.from-weight.ensures c.if-weight-eq0.false
 
 room :
     (c : Else-weight-eq0) → let a = c.args in
-    a.at + length (claim_first (a.place + 1) c.wide-weight.result ++ rest a.question a.severity.now a.month a.later.now a.left a.level a.place) ≤ length a.text.now
+    a.at + length (claim_first (a.place + 1) c.from-weight.result ++ rest a.question a.severity.now a.month a.later.now a.left a.level a.place) ≤ length a.text.now
 room c = omega (arith, c.requires.place_in_bounds, ap length (parts c))
 
-first_room : (c : Else-weight-eq0) → let a = c.args in a.at + length (claim_first (a.place + 1) c.wide-weight.result) ≤ length a.text.now
+first_room : (c : Else-weight-eq0) → let a = c.args in a.at + length (claim_first (a.place + 1) c.from-weight.result) ≤ length a.text.now
 first_room c =
     let a = c.args in
-    room_first a.at (claim_first (a.place + 1) c.wide-weight.result) (rest a.question a.severity.now a.month a.later.now a.left a.level a.place) (room c)
+    room_first a.at (claim_first (a.place + 1) c.from-weight.result) (rest a.question a.severity.now a.month a.later.now a.left a.level a.place) (room c)
 
 rest_room :
     (c : After-put_entry-end-2) → let a = c.args in
-    a.at + length (claim_first (a.place + 1) c.wide-weight.result ++ rest a.question a.severity.now a.month a.later.now a.left a.level a.place) ≤ length a.text.now →
+    a.at + length (claim_first (a.place + 1) c.from-weight.result ++ rest a.question a.severity.now a.month a.later.now a.left a.level a.place) ≤ length a.text.now →
     c.put_entry-end-2.result + length (rest a.question a.severity.now a.month a.later.now a.left a.level a.place) ≤ length c.put_entry-end-2.new.buffer
 rest_room c all =
     let a = c.args in
@@ -48,7 +48,7 @@ rest_room c all =
 written :
     (c : After-put_entry-end-2) (b : List ℕ) (end : ℕ) → let a = c.args in
     Appended c.put_entry-end-2.new.buffer c.put_entry-end-2.result (rest a.question a.severity.now a.month a.later.now a.left a.level a.place) b end →
-    Appended a.text.now a.at (claim_first (a.place + 1) c.wide-weight.result ++ rest a.question a.severity.now a.month a.later.now a.left a.level a.place) b end
+    Appended a.text.now a.at (claim_first (a.place + 1) c.from-weight.result ++ rest a.question a.severity.now a.month a.later.now a.left a.level a.place) b end
 written c b end put = appended_more (appended_more c.put_entry-end.ensures c.put_entry-end-2.ensures) put
 
 -- what it leads to, with none left and otherwise
@@ -70,16 +70,16 @@ pub returns-then-weight-eq0 : goal.returns-then-weight-eq0
 returns-then-weight-eq0 c =
     let a = c.args in
     appended_nothing _ a.text.now a.at
-    (claim_empty a.question a.severity.now a.month a.later.now a.left a.level a.place c.wide-weight.result c.wide-weight.ensures c.if-weight-eq0.true) c.requires.place_in_bounds
+    (claim_empty a.question a.severity.now a.month a.later.now a.left a.level a.place c.from-weight.result c.from-weight.ensures c.if-weight-eq0.true) c.requires.place_in_bounds
 
 pub put_entry-end-requires : goal.put_entry-end-requires
 put_entry-end-requires c =
     let a = c.args in
-    room_first a.at (entry (ascii "  claim") ((a.place + 1) ∷ [])) (entry (ascii " weight") (c.wide-weight.result ∷ [])) (first_room (goal.at.put_entry-end-requires c).Else-weight-eq0)
+    room_first a.at (entry (ascii "  claim") ((a.place + 1) ∷ [])) (entry (ascii " weight") (c.from-weight.result ∷ [])) (first_room (goal.at.put_entry-end-requires c).Else-weight-eq0)
 
 pub put_entry-end-requires-2 : goal.put_entry-end-requires-2
 put_entry-end-requires-2 c =
-    room_rest (entry (ascii " weight") (c.wide-weight.result ∷ [])) c.put_entry-end.ensures c.put_entry-end.auto.buffer (first_room (goal.at.put_entry-end-requires-2 c).Else-weight-eq0)
+    room_rest (entry (ascii " weight") (c.from-weight.result ∷ [])) c.put_entry-end.ensures c.put_entry-end.auto.buffer (first_room (goal.at.put_entry-end-requires-2 c).Else-weight-eq0)
 
 pub put_line-requires : goal.put_line-requires
 put_line-requires c =

@@ -1,10 +1,11 @@
 -- `put_node` meets its contract: the node, and below it nothing, or what its value follows from.
-use Prim.Native.Nat.{ℕ, ◌+◌, ◌≤◌}
+use Prim.Native.Nat.{ℕ, ◌+◌, ◌≤◌, ◌<◌}
 use mathlib.Core.Path.{◌≡◌, sym, ◌∙◌, ap}
 use mathlib.Core.Bool.{cond}
 use mathlib.Core.List.{List, [], ◌∷◌, ◌++◌}
 use native.Mathlib.Omega.{arith}
 use lib.ListN.{length}
+use Rattle.std.proofs.Common.{rules}
 use Rattle.model.specs.declared.Question.{Question}
 use Rattle.text.specs.Text.{ascii, entry, Appended}
 use Rattle.text.proofs.TextLaws.{appended_more, room_first, room_rest, appended_nothing, appended_as}
@@ -74,11 +75,12 @@ put_value-end-requires c =
           (first_room (goal.at.put_value-end-requires c).Start);
     }
 
-pub returns-then-chances-lt1 : goal.returns-then-chances-lt1
-returns-then-chances-lt1 c =
+pub returns-then-is_empty : goal.returns-then-is_empty
+returns-then-is_empty c =
     let a = c.args in
-    bare (goal.at.returns-then-chances-lt1 c).After-put_value-end
-    (below_last a.question a.severity.now a.tail a.month a.chances.now a.left a.level (node_allowed a.question a.month a.level) c.if-chances-lt1.true)
+    let ended : length a.chances.now < 1 = search rules in
+    bare (goal.at.returns-then-is_empty c).After-put_value-end
+    (below_last a.question a.severity.now a.tail a.month a.chances.now a.left a.level (node_allowed a.question a.month a.level) ended)
 
 pub returns-then-not-node_allowed : goal.returns-then-not-node_allowed
 returns-then-not-node_allowed c =
@@ -88,9 +90,10 @@ returns-then-not-node_allowed c =
 
 pub put_branches-requires : goal.put_branches-requires
 put_branches-requires c =
+    let months : 0 < length c.args.chances.now = search rules in
     record {
       terms = c.requires.terms;
-      chances_nonzero = (c.if-chances-lt1.false, c.requires.month_bound.0, c.requires.month_bound.1);
+      chances_nonzero = (months, c.requires.month_bound.0, c.requires.month_bound.1);
       level_in_bounds = omega (arith, below_room (goal.at.put_branches-requires c).After-put_value-end, ap length (followed (goal.at.put_branches-requires c).Else-not-node_allowed));
     }
 

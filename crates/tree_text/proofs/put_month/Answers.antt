@@ -1,11 +1,12 @@
-use Prim.Native.Nat.{◌+◌, ◌≤◌}
+use Prim.Native.Nat.{◌+◌, ◌-◌, ◌≤◌}
 use native.Mathlib.Omega.{arith}
 use lib.ListN.{length}
 use Rattle.text.specs.Text.{joined}
-use Rattle.text.proofs.TextLaws.{appending_start, appending_room, appending_turn, appending_done}
-use Rattle.tree_text.specs.Tree.{small_plan, level_down, month_text}
+use Rattle.text.proofs.TextLaws.{Appending, appending_done}
+use Rattle.tree_text.specs.Tree.{small_plan, level_text, level_down, month_text}
+use Rattle.tree_text.proofs.TreeLaws.{falling, falling_start, falling_room, falling_turn, falling_on}
 use Rattle.tree_text.proofs.put_month.Goals as goal
-use Rattle.tree_text.proofs.put_month.Goals.{Start}
+use Rattle.tree_text.proofs.put_month.Goals.{Start, After-put_level-end}
 
 room :
     (c : Start) → let a = c.args in
@@ -13,24 +14,23 @@ room :
 unfolding month_text
 room c = omega (arith, c.requires.month_in_bounds)
 
-pub overflow_add-top : goal.overflow_add-top
-overflow_add-top c = omega (arith, c.requires.small_terms.opening_low, c.requires.small_terms.ended, c.requires.small_terms.months_few)
+-- after a turn the level's nodes are appended too
+turned :
+    (c : After-put_level-end) → let a = c.args in
+    Appending (falling (level_text a.question (small_plan a.opening a.chances.now a.severity.now a.tail) a.month) (a.opening + a.month)) (a.opening + a.month + 1) a.text.now 0
+    c.put_level-end.new.text c.put_level-end.result (a.opening + a.month - c.loop-level.level + 1)
+turned c = falling_turn c.loop-level.invariant (omega arith) (omega arith) c.put_level-end.auto.text c.put_level-end.ensures
 
-pub loop-i-init : goal.loop-i-init
-loop-i-init c = appending_start (omega arith)
+pub loop-level-init : goal.loop-level-init
+loop-level-init c = falling_start _ (omega arith)
 
-pub put_level-end-requires : goal.put_level-end-requires
-put_level-end-requires c =
-    record {
-      small_terms = c.requires.small_terms;
-      level_bound = omega arith;
-      level_in_bounds = appending_room c.loop-i.invariant (omega (arith, c.loop-i-test.true)) (room (goal.at.put_level-end-requires c).Start);
-    }
+pub put_level-end-requires-clause-level_in_bounds : goal.put_level-end-requires-clause-level_in_bounds
+put_level-end-requires-clause-level_in_bounds c =
+    falling_room c.loop-level.invariant (omega arith) (omega arith) (room (goal.at.put_level-end-requires-clause-level_in_bounds c).Start)
 
-pub loop-i-preserved : goal.loop-i-preserved
-loop-i-preserved c =
-    appending_turn c.loop-i.invariant (omega (arith, c.loop-i-test.true)) c.put_level-end.auto.text c.put_level-end.ensures
+pub loop-level-preserved : goal.loop-level-preserved
+loop-level-preserved c = falling_on (omega arith) (omega arith) (turned (goal.at.loop-level-preserved c).After-put_level-end)
 
-pub returns : goal.returns
+pub returns-2 : goal.returns-2
 unfolding month_text
-returns c = appending_done c.loop-i.invariant (omega (arith, c.loop-i-test.false))
+returns-2 c = appending_done (turned (goal.at.returns-2 c).After-put_level-end) (omega arith)

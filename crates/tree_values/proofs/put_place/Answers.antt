@@ -43,19 +43,19 @@ put_left-end-requires c =
 pub put_line-requires : goal.put_line-requires
 put_line-requires c =
     let a = c.args in
-    value_room a.allowed true a.bounds _ _ c.if-allowed.true (after_left (goal.at.put_line-requires c).After-put_left-end)
+    rw (c.from.ensures, c.from-2.ensures) (value_room a.allowed true a.bounds _ _ c.if-allowed.true (after_left (goal.at.put_line-requires c).After-put_left-end))
 
 pub returns-then-allowed : goal.returns-then-allowed
 returns-then-allowed c =
     let a = c.args in
-    written (goal.at.returns-then-allowed c).After-put_left-end _ _ (value_put a.allowed true a.bounds c.if-allowed.true c.put_line.ensures)
+    written (goal.at.returns-then-allowed c).After-put_left-end _ _ (value_put a.allowed true a.bounds c.if-allowed.true (rw (← c.from.ensures, ← c.from-2.ensures) c.put_line.ensures))
 
 pub put_line-requires-2 : goal.put_line-requires-2
 put_line-requires-2 c =
     let a = c.args in
-    value_room a.allowed false a.bounds _ _ c.if-allowed.false (after_left (goal.at.put_line-requires-2 c).After-put_left-end)
+    rw (c.from.ensures, c.from-2.ensures) (value_room a.allowed false a.bounds _ _ c.if-allowed.false (after_left (goal.at.put_line-requires-2 c).After-put_left-end))
 
 pub returns : goal.returns
 returns c =
     let a = c.args in
-    written (goal.at.returns c).After-put_left-end _ _ (value_put a.allowed false a.bounds c.if-allowed.false c.put_line-2.ensures)
+    written (goal.at.returns c).After-put_left-end _ _ (value_put a.allowed false a.bounds c.if-allowed.false (rw (← c.from.ensures, ← c.from-2.ensures) c.put_line-2.ensures))
