@@ -8,12 +8,10 @@ use Rattle.model.specs.declared.Head.{Head}
 use Rattle.model.specs.declared.Rounding.TheVariants.{Down, Up}
 use Rattle.model.specs.Plan.{plan_of, opened}
 use Rattle.model.proofs.TwoPlans.{survival_rises}
-use Rattle.engine.specs.declared.Answer.{Answer}
-use Rattle.engine.specs.Answers.{bounds_answer}
+use Rattle.engine.specs.Answers.{Answer, bounds_answer}
 use Rattle.survival.specs.Openings.{openings_refusal, bounds_after}
 use Rattle.survival.proofs.Theorems.{pair_is, pair_asked}
-use Rattle.opening_search.specs.declared.LeastAnswer.{LeastAnswer}
-use Rattle.opening_search.specs.Answers.{least_answer, Least}
+use Rattle.opening_search.specs.Answers.{LeastAnswer, least_answer, Least}
 use Rattle.opening_search.proofs.Theorems.{answer_is_least}
 use Rattle.calls.proofs.LargerOpenings.{opened_grows}
 

@@ -15,10 +15,9 @@ use Rattle.model.specs.Bounds.{lower, upper, ruin_lower, ruin_upper, count_lower
 use Rattle.model.specs.Refusal.{plan_refusal, Accepted}
 use Rattle.model.proofs.Facts.{facts, horizon_is}
 use Rattle.model.proofs.Counts.{get_d_tabulate}
-use Rattle.count_row.specs.declared.CountAnswer.{CountAnswer}
 use Rattle.engine.specs.Answers.{answer, ruin_answer}
 use Rattle.engine.proofs.AnswerLaws.{number_is, bounds_are}
-use Rattle.count_row.specs.Answers.{count_rows, count_refused, count_answer}
+use Rattle.count_row.specs.Answers.{CountAnswer, count_rows, count_refused, count_answer}
 use Rattle.questions.proofs.RefusalLaws.{asked, month_inside}
 
 -- What is known of an ask that was not refused: its plan is accepted, and it answers the definition's bounds …

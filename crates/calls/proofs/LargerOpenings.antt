@@ -7,11 +7,9 @@ use native.Mathlib.Nat.{le_trans}
 use Rattle.model.specs.declared.Head.{Head}
 use Rattle.model.specs.Plan.{plan_of, opened}
 use Rattle.model.specs.Sensitivity.{OnlyOpeningGrows}
-use Rattle.engine.specs.declared.Answer.{Answer}
-use Rattle.engine.specs.Answers.{bounds_answer, answer}
+use Rattle.engine.specs.Answers.{Answer, bounds_answer, answer}
 use Rattle.survival.specs.Openings.{opening_ask}
-use Rattle.opening_search.specs.declared.LeastAnswer.{LeastAnswer}
-use Rattle.opening_search.specs.Answers.{least_answer, Least}
+use Rattle.opening_search.specs.Answers.{LeastAnswer, least_answer, Least}
 use Rattle.opening_search.proofs.Theorems.{answer_is_least, allowed_answered}
 use Rattle.calls.proofs.TwoCalls.{survival_answers_rise}
 

@@ -12,14 +12,13 @@ use Rattle.model.specs.Limits.{places}
 use Rattle.model.specs.Scale.{S}
 use Rattle.model.specs.Sums.{sum}
 use Rattle.model.specs.Plan.{plan_of, horizon}
-use Rattle.model.specs.Bounds.{lower, upper, ruin_lower, ruin_upper}
+use Rattle.model.specs.Bounds.{ruin_lower, ruin_upper}
 use Rattle.model.specs.Refusal.{plan_refusal, ask_refusal}
 use Rattle.model.proofs.SumLaws.{sum_ext}
 use Rattle.model.proofs.Facts.{facts, horizon_is}
 use Rattle.model.proofs.Opening.{high_exceeded}
 use Rattle.model.proofs.Theorems.{whole_between, counts_above}
-use Rattle.engine.specs.declared.Answer.{Answer}
-use Rattle.engine.specs.Answers.{refused, bounds_answer, answer, ruin_answer}
+use Rattle.engine.specs.Answers.{Answer, refused, bounds_answer, answer, ruin_answer}
 use Rattle.count_row.specs.Answers.{count_refused, count_answer}
 use Rattle.calls.proofs.Answered.{Answered, answered, RuinAnswered, ruin_answered, count_accepted, count_of_refused}
 

@@ -15,9 +15,8 @@ use Rattle.model.specs.Exact.{exact, exact_ruin, exact_count}
 use Rattle.model.specs.Bounds.{months_to}
 use Rattle.model.specs.Sensitivity.{OnlyChancesDiffer, OnlyOpeningGrows, distance, chances_apart, Moves}
 use Rattle.model.proofs.TwoPlans.{question_moves, bounds_move, ruin_moves, ruin_bounds_move, count_moves, count_bounds_move, survival_rises}
-use Rattle.engine.specs.declared.Answer.{Answer}
 use Rattle.count_row.specs.declared.CountRow.{CountRow}
-use Rattle.engine.specs.Answers.{answer, ruin_answer}
+use Rattle.engine.specs.Answers.{Answer, answer, ruin_answer}
 use Rattle.count_row.specs.Answers.{count_answer}
 use Rattle.calls.proofs.Answered.{Answered, answered, RuinAnswered, ruin_answered, CountAnswered, count_answered}
 

@@ -13,17 +13,20 @@ use Rattle.model.specs.declared.Ask.{Ask}
 use Rattle.model.specs.declared.Question.{Question}
 use Rattle.model.specs.declared.Question.TheVariants.{Survive}
 use Rattle.model.specs.declared.Rounding.{Rounding}
+use Rattle.model.specs.declared.Bounds.{Bounds}
+use Rattle.model.specs.declared.refusal.Refusal.{Refusal}
+use Rattle.std.specs.Prelude.{Result, Ok, Err, IfOk}
 use Rattle.model.specs.Plan.{nth, plan_of, row_length}
 use Rattle.model.specs.Levels.{largest_level, row_levels}
 use Rattle.model.specs.MonthRule.{month, values, all_placed, last_of, opening_allowed, ruin_row, carried_back}
 use Rattle.model.specs.Bounds.{bound, ruin_bound}
-use Rattle.model.specs.Refusal.{outside, rows_needed, workspace_needed}
+use Rattle.model.specs.Refusal.{refusal_number, outside, rows_needed, workspace_needed}
 use Rattle.model.proofs.LevelLaws.{level_later}
 use Rattle.model.proofs.Facts.{Facts, horizon_is}
 use Rattle.model.proofs.Rooms.{rows_few}
-use Rattle.model.proofs.MemoryLaws.{filled, untouched}
+use Rattle.model.proofs.MemoryLaws.{filled, kept, when_none, when_refused}
+use Rattle.model.proofs.RefusalNumbers.{not_accepted}
 use Rattle.model.proofs.Opening.{value_allowed, value_forbidden}
-use Rattle.engine.specs.declared.Answer.{Answer}
 use Rattle.engine.specs.declared.bounds.LastRows.{LastRows}
 use Rattle.engine.specs.declared.bounds.LastRows.TheVariants.{Placed, Ruin}
 use Rattle.month_rows.specs.declared.rows.Shape.{Shape}
@@ -34,32 +37,28 @@ use Rattle.month_rows.proofs.RowLaws.{chances_parts}
 use Rattle.ruin_rows.specs.Terms.{RuinTerms}
 use Rattle.questions.specs.Needs.{shape_of}
 use Rattle.engine.specs.LastRows.{last_rows, past_last, LastIn, LastFits, opening_value}
-use Rattle.engine.specs.Answers.{refused, bounds_answer}
+use Rattle.engine.specs.Answers.{Answer, answer_result, refused, bounds_answer}
 use Rattle.model.specs.Memory.{zero_first, cleared_after}
 use Rattle.questions.proofs.ShapeLaws.{shape_rows, shape_width, last_agree, shape_value}
 
--- The clauses of a call that answers two bounds: of a refusal, of which nothing else is promised (E) …
+-- The clauses of a call that answers two bounds, of which something holds (E): of a refusal, of which nothing else is promised …
 pub refused_out :
-    {E : Type 0} (r : Answer) (n number needed low high : ℕ) (ws : List ℕ) → r ≡ refused n → n ≡ number → (n ≡ 0 → ⊥) →
-    (r ≡ bounds_answer number low high) × ((ws ≡ cleared_after number needed ws) × (r.refusal ≡ 0 → E))
+    (E : ℕ → ℕ → Type 0) (r : Result Bounds Refusal) (e : Refusal) (number needed low high : ℕ) (ws : List ℕ) → r ≡ Err e → refusal_number e ≡ number →
+    (answer_result r ≡ bounds_answer number low high) × ((ws ≡ cleared_after number needed ws) × IfOk r (λ b. E b.lower b.upper))
 unfolding refused bounds_answer
-refused_out r n number needed low high ws er e ne = (
-  rw (er, ← e, ne_eqb n 0 ne),
-  (untouched n number needed ws e ne, λ z. absurd (ne (sym (ap (λ (a : Answer). a.refusal) er) ∙ z))),
-)
+refused_out E r e number needed low high ws is refuses =
+    let some = not_accepted e number refuses in
+    rw is (rw (← refuses) (sym (when_refused _ _ _ (not_accepted e _ refl))), (sym (kept number needed _ ws some), tt))
 
--- … and of an answer that was not refused: what holds of the definition's bounds (E) holds of its numbers.
+-- … and of an answer: what holds of the definition's bounds holds of its numbers.
 pub answered_out :
-    (E : ℕ → ℕ → Type 0) (r : Answer) (number m needed : ℕ) (ws ws' : List ℕ) {low high low' high' : ℕ} → number ≡ 0 →
-    r ≡ bounds_answer 0 low high → low ≡ low' → high ≡ high' → ws' ≡ zero_first m ws → m ≡ needed → E low' high' →
-    (r ≡ bounds_answer number low' high') × ((ws' ≡ cleared_after number needed ws) × (r.refusal ≡ 0 → E r.lower r.upper))
+    (E : ℕ → ℕ → Type 0) (b : Bounds) (number m needed : ℕ) (ws ws' : List ℕ) {low high : ℕ} → number ≡ 0 → b.lower ≡ low → b.upper ≡ high →
+    ws' ≡ zero_first m ws → m ≡ needed → E low high →
+    (answer_result (Ok b) ≡ bounds_answer number low high) × ((ws' ≡ cleared_after number needed ws) × E b.lower b.upper)
 unfolding bounds_answer
-answered_out E r number m needed ws ws' e worked el eh cleared em holds = (
-  rw (e, ← el, ← eh) worked,
-  (
-    cleared ∙ ap (λ (k : ℕ). zero_first k ws) em ∙ sym (filled number needed (replicate needed 0) ws e),
-    λ _. rw (ap (λ (a : Answer). a.lower) worked ∙ el, ap (λ (a : Answer). a.upper) worked ∙ eh) holds,
-  ),
+answered_out E b number m needed ws ws' none el eh cleared em holds = (
+  rw (el, eh) (sym (when_none _ _ _ none)),
+  (cleared ∙ ap (λ k. zero_first k ws) em ∙ sym (filled number needed (replicate needed 0) ws none), rw (el, eh) holds),
 )
 
 -- an answer gives its refusal's number, and its bounds where that is 0

@@ -1,13 +1,25 @@
 -- What each call answers and leaves in lent memory, for every input: "A refusal gives its number, zero in each number it would have answered,
 -- and changes no lent memory."
-use Rattle.std.specs.Prelude.{ℕ, cond, List, eqb, length}
+use Rattle.std.specs.Prelude.{ℕ, cond, List, eqb, length, Result, Ok, Err}
 use Rattle.model.specs.declared.Head.{Head}
 use Rattle.model.specs.declared.Ask.{Ask}
-use Rattle.engine.specs.declared.Answer.{Answer}
+use Rattle.model.specs.declared.Bounds.{Bounds}
+use Rattle.model.specs.declared.refusal.Refusal.{Refusal}
 use Rattle.model.specs.Plan.{Plan, plan_of}
 use Rattle.model.specs.Bounds.{lower, upper, ruin_lower, ruin_upper}
 use Rattle.model.specs.Memory.{cleared_after}
-use Rattle.model.specs.Refusal.{ask_refusal, ruin_refusal, workspace_needed, survival_workspace}
+use Rattle.model.specs.Refusal.{refusal_number, ask_refusal, ruin_refusal, workspace_needed, survival_workspace}
+
+-- what a call that answers two bounds answers in the paper's words: the refusal's number, 0 if there is none, and the bounds in parts of 2^30
+pub record Answer : Type 0 where
+  pub refusal : ℕ
+  pub lower : ℕ
+  pub upper : ℕ
+
+-- what the calls answer, so read
+abbrev pub answer_result : Result Bounds Refusal → Answer
+answer_result (Ok b) = record { refusal = 0; lower = b.lower; upper = b.upper }
+answer_result (Err r) = record { refusal = refusal_number r; lower = 0; upper = 0 }
 
 -- the answer of a refusal
 unfoldable pub refused : ℕ → Answer

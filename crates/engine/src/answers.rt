@@ -1,39 +1,25 @@
-// The answer of a call that has two bounds: refused, or worked out from the last rows.
+// The two bounds that a call answers where nothing is refused: both 0, or worked out from the last rows.
 ghost use Rattle.std.specs.Prelude.{◌≡◌, ◌++◌, ◌*◌, ◌≤◌, length, drop, replicate};
 ghost use Rattle.model.specs.declared.Rounding.TheVariants.{Down, Up};
 ghost use Rattle.model.specs.Plan.{plan_of};
 ghost use Rattle.model.specs.Refusal.{Accepted};
 ghost use Rattle.month_rows.specs.Shapes.{rows_size};
-ghost use Rattle.engine.specs.Answers.{bounds_answer};
-ghost use Rattle.engine.specs.Answers.{refused as Answers·refused};
 ghost use Rattle.engine.specs.LastRows.{LastFits, Workable, opening_value};
 
-use crate::Answer;
 use crate::bounds::{LastRows, bounds_from};
-use model::Head;
+use model::{Bounds, Head};
 use month_rows::rows::Shape;
-
-pub fn refused(refusal: u32) -> Answer
-    ensures { result ≡ Answers·refused refusal }
-{
-    Answer {
-        refusal,
-        lower: 0,
-        upper: 0,
-    }
-}
 
 // The answer where the question forbids the opening: both bounds are 0 with no month worked, and the needed part of the workspace is all 0 as after
 // any other answer.
-pub fn none_allowed(needed: usize, workspace: &mut [u32]) -> Answer
+pub fn none_allowed(needed: usize, workspace: &mut [u32]) -> Bounds
     requires { needed ≤ length workspace.old }
-    ensures answered { result ≡ bounds_answer 0 0 0 }
+    ensures answered { (result.lower ≡ 0) × (result.upper ≡ 0) }
     ensures cleared { workspace.new ≡ replicate needed 0 ++ drop needed workspace.old }
 {
     workspace[..needed].fill(0);
     let chance = 0;
-    Answer {
-        refusal: 0,
+    Bounds {
         lower: chance,
         upper: chance,
     }
@@ -47,17 +33,18 @@ pub fn work_out(
     last: LastRows,
     row: &[u32],
     workspace: &mut [u32],
-) -> Answer
+) -> Bounds
     requires accepted { Accepted head row.now }
     requires workable { Workable head months shape (length workspace.old) }
     requires last_fits { LastFits last shape (plan_of head row.now).severity (plan_of head row.now).tail }
-    ensures answered { result ≡ bounds_answer 0 (opening_value Down (plan_of head row.now) months shape last) (opening_value Up (plan_of head row.now) months shape last) }
+    ensures lower { result.lower ≡ opening_value Down (plan_of head row.now) months shape last }
+    ensures upper { result.upper ≡ opening_value Up (plan_of head row.now) months shape last }
     ensures cleared { workspace.new ≡ replicate (2 * rows_size shape) 0 ++ drop (2 * rows_size shape) workspace.old }
 {
     let first = head.months;
     let end = first + head.sizes;
     let needed = 2 * (shape.rows * shape.width);
-    let bounds = bounds_from(
+    bounds_from(
         &mut workspace[..needed],
         shape,
         head.opening,
@@ -65,10 +52,5 @@ pub fn work_out(
         &row[first..end],
         row[end],
         last,
-    );
-    Answer {
-        refusal: 0,
-        lower: bounds.lower,
-        upper: bounds.upper,
-    }
+    )
 }

@@ -12,6 +12,7 @@ use Rattle.model.specs.Levels.{row_levels}
 use Rattle.model.specs.MonthRule.{opening_allowed}
 use Rattle.model.specs.Bounds.{bound, EnclosesQuestion}
 use Rattle.model.specs.Refusal.{outside, workspace_needed, ask_refusal}
+use Rattle.model.proofs.RefusalNumbers.{handed_on}
 use Rattle.model.proofs.Facts.{facts, accepted_head}
 use Rattle.model.proofs.Rooms.{rows_few}
 use Rattle.model.proofs.Theorems.{enclosure}
@@ -23,29 +24,28 @@ use Rattle.questions.proofs.RefusalLaws.{Asked, asked}
 use Rattle.questions.proofs.ShapeLaws.{shape_rows, shape_width, shape_income}
 use Rattle.engine.proofs.AnswerLaws.{refused_out, answered_out, needed_halves, bound_is, bound_none}
 use Rattle.engine.proofs.ask.Goals as goal
-use Rattle.engine.proofs.ask.Goals.{After-shape_of-shape, Else-refusal-ne0, Then-not-opening_allowed}
+use Rattle.engine.proofs.ask.Goals.{After-shape_of-shape, In_ok-check_ask, Then-not-opening_allowed}
 
-pub returns-then-refusal-ne0 : goal.returns-then-refusal-ne0
+pub returns-in_err-check_ask : goal.returns-in_err-check_ask
 unfolding answer
-returns-then-refusal-ne0 c =
+returns-in_err-check_ask c =
     let a = c.args in
-    let n = c.ask_refusal-refusal in let both = refused_out c.refused.result n.result _ (workspace_needed a.ask) _ _ a.workspace.now c.refused.ensures n.ensures c.if-refusal-ne0.true in record { answered = both.0; cleared = both.1.0; encloses = both.1.1 }
+    let out = refused_out (EnclosesQuestion (plan_of a.ask.head a.row.now) a.ask.question) _ _ _ (workspace_needed a.ask) _ _ a.workspace.now
+    (handed_on _ _ c.from_residual.ensures.1) c.in_err-check_ask.ensures in
+    record { answered = out.0; cleared = out.1.0; encloses = out.1.1 }
 
-known : (c : Else-refusal-ne0) → let a = c.args in Asked a.ask.head a.row.now (outside a.ask.question) (workspace_needed a.ask) (length a.workspace.now)
-known c =
-    let a = c.args in
-    asked a.ask.head a.row.now 10 (outside a.ask.question) (workspace_needed a.ask) (length a.workspace.now) (omega arith)
-    (sym c.ask_refusal-refusal.ensures ∙ c.if-refusal-ne0.false)
+known : (c : In_ok-check_ask) → let a = c.args in Asked a.ask.head a.row.now (outside a.ask.question) (workspace_needed a.ask) (length a.workspace.now)
+known c = asked _ _ 10 _ _ _ (omega arith) (sym c.in_ok-check_ask.ensures)
 
-none-refused : (c : Else-refusal-ne0) → let a = c.args in ask_refusal a.ask a.row.now (length a.workspace.now) ≡ 0
-none-refused c = sym c.ask_refusal-refusal.ensures ∙ c.if-refusal-ne0.false
+none-refused : (c : In_ok-check_ask) → let a = c.args in ask_refusal a.ask a.row.now (length a.workspace.now) ≡ 0
+none-refused c = sym c.in_ok-check_ask.ensures
 
 pub workspace_needed-requires : goal.workspace_needed-requires
-workspace_needed-requires c = let known = known (goal.at.workspace_needed-requires c).Else-refusal-ne0 in record { head_accepted = accepted_head _ _ known.accepted; question_value = known.inside }
+workspace_needed-requires c = let known = known (goal.at.workspace_needed-requires c).In_ok-check_ask in record { head_accepted = accepted_head _ _ known.accepted; question_value = known.inside }
 
 pub none_allowed-requires : goal.none_allowed-requires
 none_allowed-requires c =
-    omega (arith, c.workspace_needed.ensures, (known (goal.at.none_allowed-requires c).Else-refusal-ne0).enough)
+    omega (arith, c.workspace_needed.ensures, (known (goal.at.none_allowed-requires c).In_ok-check_ask).enough)
 
 -- both bounds are 0 where the opening is forbidden
 no_bound : (c : Then-not-opening_allowed) (round : Rounding) → let a = c.args in 0 ≡ bound round (plan_of a.ask.head a.row.now) a.ask.question
@@ -59,15 +59,15 @@ unfolding answer
 returns-then-not-opening_allowed c =
     let call = c.none_allowed in
     let needed = c.workspace_needed in
-    let a = c.args in let both = answered_out (EnclosesQuestion (plan_of a.ask.head a.row.now) a.ask.question) call.result _ needed.result (workspace_needed a.ask) a.workspace.now _ (none-refused (goal.at.returns-then-not-opening_allowed c).Else-refusal-ne0) call.ensures.answered
-    (no_bound (goal.at.returns-then-not-opening_allowed c).Then-not-opening_allowed Down) (no_bound (goal.at.returns-then-not-opening_allowed c).Then-not-opening_allowed Up) call.ensures.cleared needed.ensures
-    (enclosure a.ask.head a.row.now (known (goal.at.returns-then-not-opening_allowed c).Else-refusal-ne0).accepted a.ask.question) in record { answered = both.0; cleared = both.1.0; encloses = both.1.1 }
+    let a = c.args in let both = answered_out (EnclosesQuestion (plan_of a.ask.head a.row.now) a.ask.question) call.result _ needed.result (workspace_needed a.ask) a.workspace.now _ (none-refused (goal.at.returns-then-not-opening_allowed c).In_ok-check_ask)
+    (call.ensures.answered.0 ∙ no_bound (goal.at.returns-then-not-opening_allowed c).Then-not-opening_allowed Down) (call.ensures.answered.1 ∙ no_bound (goal.at.returns-then-not-opening_allowed c).Then-not-opening_allowed Up) call.ensures.cleared needed.ensures
+    (enclosure a.ask.head a.row.now (known (goal.at.returns-then-not-opening_allowed c).In_ok-check_ask).accepted a.ask.question) in record { answered = both.0; cleared = both.1.0; encloses = both.1.1 }
 
 pub row_levels-requires : goal.row_levels-requires
-row_levels-requires c = accepted_head _ _ (known (goal.at.row_levels-requires c).Else-refusal-ne0).accepted
+row_levels-requires c = accepted_head _ _ (known (goal.at.row_levels-requires c).In_ok-check_ask).accepted
 
 pub shape_of-shape-requires : goal.shape_of-shape-requires
-shape_of-shape-requires c = (known (goal.at.shape_of-shape-requires c).Else-refusal-ne0).inside
+shape_of-shape-requires c = (known (goal.at.shape_of-shape-requires c).In_ok-check_ask).inside
 
 width_is : (c : After-shape_of-shape) → let a = c.args in c.shape_of-shape.result.width ≡ row_levels a.ask.head.income a.ask.head.opening a.ask.head.months
 width_is c =
@@ -85,7 +85,7 @@ rows-some : (c : After-shape_of-shape) → 0 < c.shape_of-shape.result.rows
 rows-some c =
     let a = c.args in
     let q = a.ask.question in
-    let known = asked a.ask.head a.row.now 10 (outside q) (workspace_needed a.ask) (length a.workspace.now) (omega arith) (sym c.ask_refusal-refusal.ensures ∙ c.if-refusal-ne0.false) in
+    let known = asked _ _ 10 _ _ _ (omega arith) (sym c.in_ok-check_ask.ensures) in
     omega (
       arith,
       ap (λ s. s.rows) c.shape_of-shape.ensures ∙ shape_rows q c.row_levels.result _,
@@ -98,7 +98,7 @@ bound_of c round =
     let a = c.args in
     let h = a.ask.head in
     let width = c.row_levels in
-    let known = asked h a.row.now 10 (outside a.ask.question) (workspace_needed a.ask) (length a.workspace.now) (omega arith) (sym c.ask_refusal-refusal.ensures ∙ c.if-refusal-ne0.false) in
+    let known = asked _ _ 10 _ _ _ (omega arith) (sym c.in_ok-check_ask.ensures) in
     let row_is = (facts h a.row.now known.accepted).row_is in
     let allows : opening_allowed a.ask.question h.opening ≡ true = sym c.opening_allowed.ensures ∙ c.if-not-opening_allowed.false in
     ap (λ s. opening_value round (plan_of h a.row.now) h.months s Placed) c.shape_of-shape.ensures
@@ -107,12 +107,12 @@ bound_of c round =
 pub work_out-requires : goal.work_out-requires
 unfolding LastFits
 work_out-requires c =
-    let known = known (goal.at.work_out-requires c).Else-refusal-ne0 in record { accepted = known.accepted; workable = record { wide = width_is (goal.at.work_out-requires c).After-shape_of-shape; earns = income-is (goal.at.work_out-requires c).After-shape_of-shape; within = omega arith; enough = omega (arith, needed_is (goal.at.work_out-requires c).After-shape_of-shape, known.enough) }; last_fits = rows-some (goal.at.work_out-requires c).After-shape_of-shape }
+    let known = known (goal.at.work_out-requires c).In_ok-check_ask in record { accepted = known.accepted; workable = record { wide = width_is (goal.at.work_out-requires c).After-shape_of-shape; earns = income-is (goal.at.work_out-requires c).After-shape_of-shape; within = omega arith; enough = omega (arith, needed_is (goal.at.work_out-requires c).After-shape_of-shape, known.enough) }; last_fits = rows-some (goal.at.work_out-requires c).After-shape_of-shape }
 
 pub returns : goal.returns
 unfolding answer
 returns c =
     let call = c.work_out in
-    let a = c.args in let both = answered_out (EnclosesQuestion (plan_of a.ask.head a.row.now) a.ask.question) call.result _ (2 * rows_size c.shape_of-shape.result) (workspace_needed a.ask) a.workspace.now _ (none-refused (goal.at.returns c).Else-refusal-ne0)
-    call.ensures.answered (bound_of (goal.at.returns c).After-shape_of-shape Down) (bound_of (goal.at.returns c).After-shape_of-shape Up) call.ensures.cleared (needed_is (goal.at.returns c).After-shape_of-shape)
-    (enclosure a.ask.head a.row.now (known (goal.at.returns c).Else-refusal-ne0).accepted a.ask.question) in record { answered = both.0; cleared = both.1.0; encloses = both.1.1 }
+    let a = c.args in let both = answered_out (EnclosesQuestion (plan_of a.ask.head a.row.now) a.ask.question) call.result _ (2 * rows_size c.shape_of-shape.result) (workspace_needed a.ask) a.workspace.now _ (none-refused (goal.at.returns c).In_ok-check_ask)
+    (call.ensures.lower ∙ bound_of (goal.at.returns c).After-shape_of-shape Down) (call.ensures.upper ∙ bound_of (goal.at.returns c).After-shape_of-shape Up) call.ensures.cleared (needed_is (goal.at.returns c).After-shape_of-shape)
+    (enclosure a.ask.head a.row.now (known (goal.at.returns c).In_ok-check_ask).accepted a.ask.question) in record { answered = both.0; cleared = both.1.0; encloses = both.1.1 }

@@ -8,7 +8,7 @@ use lib.Seq.{length-take-le}
 use Rattle.model.specs.declared.Rounding.TheVariants.{Down, Up}
 use Rattle.model.proofs.Facts.{Facts, facts}
 use Rattle.month_rows.specs.Shapes.{rows_size}
-use Rattle.engine.proofs.AnswerLaws.{answer_worked, terms_lent, levels_fit, last_lent, value_lent}
+use Rattle.engine.proofs.AnswerLaws.{terms_lent, levels_fit, last_lent, value_lent}
 use Rattle.engine.proofs.answers.work_out.Goals as goal
 use Rattle.engine.proofs.answers.work_out.Goals.{Start}
 
@@ -39,9 +39,9 @@ offset_bounds-row-end c = omega (arith, (known (goal.at.offset_bounds-row-end c)
 pub bounds-row-end : goal.bounds-row-end
 bounds-row-end c = omega (arith, (known (goal.at.bounds-row-end c).Start).row_is)
 
-pub bounds_from-bounds-requires : goal.bounds_from-bounds-requires
-bounds_from-bounds-requires c =
-    let facts = known (goal.at.bounds_from-bounds-requires c).Start in
+pub bounds_from-requires : goal.bounds_from-requires
+bounds_from-requires c =
+    let facts = known (goal.at.bounds_from-requires c).Start in
     let a = c.args in
     let w = c.requires.workable in
     record {
@@ -56,13 +56,12 @@ bounds_from-bounds-requires c =
 
 pub returns : goal.returns
 returns c =
-    let call = c.bounds_from-bounds in
+    let call = c.bounds_from in
     let a = c.args in
     let w = c.requires.workable in
     let count = length-take-le (2 * rows_size a.shape) a.workspace.now w.enough in
     record {
-      answered = answer_worked call.result.lower call.result.upper _ _
-          (value_lent Down a.head a.row.now a.months a.shape w.earns a.last call.result.lower w.within call.ensures.lower)
-          (value_lent Up a.head a.row.now a.months a.shape w.earns a.last call.result.upper w.within call.ensures.upper);
+      lower = value_lent Down a.head a.row.now a.months a.shape w.earns a.last call.result.lower w.within call.ensures.lower;
+      upper = value_lent Up a.head a.row.now a.months a.shape w.earns a.last call.result.upper w.within call.ensures.upper;
       cleared = ap (λ front. front ++ drop (2 * rows_size a.shape) a.workspace.now) (call.ensures.cleared ∙ ap (λ n. replicate n 0) count);
     }

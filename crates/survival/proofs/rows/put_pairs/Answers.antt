@@ -54,7 +54,7 @@ loop-level-preserved c =
     let low = from_top a.top (take a.half a.halves.now) in
     let high = from_top a.top (drop a.half a.halves.now) in
     pair_more low high a.pairs.now c.loop-level.pairs c.loop-level.level c.loop-level.invariant c.value_at-lower.result c.value_at-upper.result (room (goal.at.loop-level-preserved c).After-value_at-upper) c.value_at-lower.ensures
-          (c.value_at-upper.ensures ∙ ap (λ l. get_or l (a.top - c.loop-level.level) 0) (second_half (goal.at.loop-level-preserved c).After-value_at-lower))
+    (c.value_at-upper.ensures ∙ ap (λ l. get_or l (a.top - c.loop-level.level) 0) (second_half (goal.at.loop-level-preserved c).After-value_at-lower))
 
 pub shape_of-pairs : goal.shape_of-pairs
 shape_of-pairs c = c.loop-level.invariant.same

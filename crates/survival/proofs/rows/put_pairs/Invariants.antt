@@ -1,5 +1,5 @@
 -- `put_pairs` meets its contract. The invariant: the pairs of the levels below are stored.
-use Prim.Native.Nat.{◌+◌, ◌*◌, ◌-◌, ◌≤◌}
+use Prim.Native.Nat.{◌*◌}
 use lib.ListN.{take, drop}
 use Rattle.model.proofs.Filling.{Filling}
 use Rattle.claims.specs.Values.{from_top}
