@@ -1,22 +1,23 @@
--- The parts of a double in 0 to 1: its product with 2^30 is exact, and lies in 0 to 2^30, so that rounding it down to a machine number cuts nothing off.
-use Prim.Native.Nat.{ℕ, zero, suc, pred, ◌+◌, ◌*◌, ◌/◌, ◌%◌, ◌^◌, ◌≤◌, ◌<◌}
+-- The parts of a double in 0 to 1: its product with 2^30 is exact, and what a double in 0 to 2^30 is rounded down to is read from its bits, as the digits,
+-- with the leading one put back, shifted by what the exponent leaves.
+use Prim.Native.Nat.{ℕ, zero, suc, pred, ◌+◌, ◌*◌, ◌-◌, ◌/◌, ◌%◌, ◌^◌, ◌≤◌, ◌<◌}
 use mathlib.Core.Path.{◌≡◌, refl, sym, ap, ◌∙◌, subst}
-use mathlib.Core.Bool.{Bool, true, false, cond}
-use native.Mathlib.Nat.{le_trans, le_of_eq, lt_of_le_of_lt, zero-div, zero-mul, mul-one, mul_comm, mul_assoc, mul_right_comm, mul-le-mul_right, le_of_mul-le-mul_right, mod-lt, div-le_of_le-mul}
+use mathlib.Core.Bool.{Bool, true, false, not, cond}
+use native.Mathlib.Nat.{le_trans, le_of_eq, lt_of_lt_of_le, lt_of_le_of_lt, lt_of_not-le, lt_irrefl, le_of_suc-le-suc, le-add_right, zero-mul, mul-one, mul_comm, mul_assoc, mul_right_comm, mul-le-mul_right, le_of_mul-le-mul_right, mod-lt, div-eq_of_lt, div-le_of_le-mul}
 use native.Mathlib.Omega.{arith}
 use lib.Dec.{T, leb, eqb, lit<}
-use lib.Pow.{pow-add, pow_pos, field}
-use lib.Ieee.{Float, nan, inf, fin, binary64, up, down, unlike, odd, round, mul, fits, of_fields, of_bits, to_bits, to_unsigned}
+use lib.Pow.{pow-add, pow_pos, pow_mono, pow-lt, shl_lt, shl-shr, shr-shr, field}
+use lib.Ieee.{Float, nan, inf, fin, binary64, up, down, unlike, odd, round, mul, le, fits, is_nan, of_fields, of_bits, to_bits}
 use lib.Ieee.Fits.{down_pos}
-use lib.Ieee.Bits.{of_bits-to_bits}
+use lib.Ieee.Bits.{is_true, of_bits-to_bits}
 use lib.Ieee.Digits.{Equals, odd_val}
 use lib.Ieee.Exact.{HasValue, round_exact}
 use lib.Ieee.Nearest.{div_same}
 use lib.Ieee.Positive.{num, den, den_pos}
 use lib.Ieee.Scale.{finite}
 use Rattle.model.specs.Scale.{S}
-use Rattle.doubles.specs.Doubles.{scale, within, parts}
-use Rattle.doubles.proofs.RangeLaws.{Unit, UpTo, unit, up_to_value, up_to_finite, up_to_size, within_up_to, within_small}
+use Rattle.doubles.specs.Doubles.{nought, scale, within, parts}
+use Rattle.doubles.proofs.RangeLaws.{Unit, UpTo, yes, unit, up_to, up_to_back, up_to_value, up_to_finite, up_to_size, within_up_to, within_small}
 use Rattle.doubles.proofs.RoundLaws.{sized}
 
 -- ---- by any fraction that the double's size is, whatever its sign
@@ -74,6 +75,42 @@ read s (suc j) t u = go (eqb (suc j) 2047) (eqb t 0) u
     go true false u = absurd u
     go false b u = odd_val 53 s (2 ^ 52 + t) j 1074
 
+-- the exponent of a double of at most 2^30
+exponent_within : (e t : ℕ) → units e t ≤ 2 ^ 1104 → e ≤ 1053
+unfolding lead
+exponent_within zero t h = omega arith
+exponent_within (suc j) t h =
+    let power : 2 ^ (52 + j) ≤ 2 ^ 1104 = le_trans (le_of_eq (pow-add 2 52 j)) (le_trans (mul-le-mul_right (2 ^ j) (le-add_right (2 ^ 52) t)) h) in
+    back j (le_of_suc-le-suc (lt_of_not-le (λ (g : suc 1104 ≤ 52 + j). lt_irrefl (2 ^ 1104) (lt_of_lt_of_le (pow-lt g) power))))
+  where
+    back : (j : ℕ) → 52 + j ≤ 1104 → suc j ≤ 1053
+    back j h = omega arith
+
+-- below an exponent of 1023 it is less than 1
+units_small : (e t : ℕ) → t < 2 ^ 52 → e < 1023 → units e t / 2 ^ 1074 ≡ 0
+units_small e t few low = div-eq_of_lt (lt_of_lt_of_le (shl_lt 53 (pred e) (lead_fits e t few)) (pow_mono {i = 53 + pred e} {j = 1074} (places e low)))
+  where
+    places : (e : ℕ) → e < 1023 → 53 + pred e ≤ 1074
+    places zero l = omega arith
+    places (suc j) l = omega arith
+
+-- from there on it is the shifted digits
+units_shifted : (e t : ℕ) → 1023 ≤ e → e ≤ 1053 → (2 ^ 52 + t) / 2 ^ (1075 - e) ≡ units e t / 2 ^ 1074
+unfolding lead
+units_shifted zero t low high = absurd (omega arith)
+units_shifted (suc j) t low high =
+    let q = 2 ^ 52 + t in
+    ap (λ (k : ℕ). q / 2 ^ k) by
+    ∙ ap (λ (k : ℕ). k / 2 ^ (1074 - j)) (sym (shl-shr q j))
+    ∙ shr-shr (q * 2 ^ j) j (1074 - j)
+    ∙ ap (λ (k : ℕ). q * 2 ^ j / 2 ^ k) whole
+  where
+    by : 1075 - suc j ≡ 1074 - j
+    by = omega arith
+
+    whole : j + (1074 - j) ≡ 1074
+    whole = omega arith
+
 -- ---- the bits of a finite double
 
 abbrev exponent : Float → ℕ
@@ -98,16 +135,38 @@ value x held number =
         ap (λ (k : ℕ). of_fields binary64 negative k (digits x)) (sym (field (to_bits binary64 x) 11 52))
         ∙ (unfold of_bits in of_bits-to_bits binary64 x held)
 
--- ---- a double in 0 to 2^30, rounded down to a machine number
+-- ---- rounded down, from the bits of a double in 0 to 2^30
 
-pub rounded_down : (x : Float) → UpTo 30 x → to_unsigned 32 x ≡ num x / den x
-unfolding to_unsigned
-rounded_down nan u = absurd u
-rounded_down (inf s) u = absurd u
-rounded_down (fin true m e) u = rw (u.1 refl, zero-div (down e))
-rounded_down (fin false m e) u =
-    let few : m * up e / down e ≤ 2 ^ 30 = div-le_of_le-mul (down e) (le_trans u.0 (le_of_eq (mul_comm (2 ^ 30) (down e)))) in
-    omega arith
+is_number : (x : Float) → T (finite x) → T (not (is_nan x))
+unfolding is_nan
+is_number nan u = absurd u
+is_number (inf s) u = absurd u
+is_number (fin s m e) u = tt
+
+module _ (x : Float) (held : T (fits binary64 x)) (least : le nought x ≡ true) (most : le x scale ≡ true) where
+  range : UpTo 30 x
+  range = up_to 30 x (yes least) (yes most)
+
+  in_units : Equals x (units (exponent x) (digits x)) (2 ^ 1074)
+  in_units = value x held (up_to_finite 30 x range)
+
+  pub no_nan : T (not (is_nan x))
+  no_nan = is_number x (up_to_finite 30 x range)
+
+  pub exponent_fits : exponent x ≤ 1053
+  exponent_fits = exponent_within (exponent x) (digits x) (size_as 30 x _ _ range in_units)
+
+  whole_is : num x / den x ≡ units (exponent x) (digits x) / 2 ^ 1074
+  whole_is = whole_as x _ _ (pow_pos 1074) in_units
+
+  pub less_than_one : exponent x < 1023 → 0 ≡ num x / den x
+  less_than_one low = sym (whole_is ∙ units_small (exponent x) (digits x) (digits_few x) low)
+
+  pub shifted : 1023 ≤ exponent x → (2 ^ 52 + digits x) / 2 ^ (1075 - exponent x) ≡ num x / den x
+  shifted high = units_shifted (exponent x) (digits x) high exponent_fits ∙ sym whole_is
+
+  pub whole_fits : num x / den x ≤ 2 ^ 30
+  whole_fits = div-le_of_le-mul (den x) (le_trans (up_to_size 30 x range) (le_of_eq (mul_comm (2 ^ 30) (den x))))
 
 -- ---- the product of a double in 0 to 1 with 2^30
 
@@ -158,8 +217,10 @@ module _ (x : Float) (held : T (fits binary64 x)) (h : within x ≡ true) where
   abbrev product : Float
   product = mul binary64 x scale
 
-  pub product_up_to : UpTo 30 product
-  product_up_to = up_to_value 30 product (sign x) (num x * 2 ^ 30) (den x) (den_pos x) product_exact few (none x (unit x h))
+  pub product_within : (le nought product ≡ true) × (le product scale ≡ true)
+  product_within =
+      let tests = up_to_back 30 product (up_to_value 30 product (sign x) (num x * 2 ^ 30) (den x) (den_pos x) product_exact few (none x (unit x h))) in
+      (is_true _ tests.0, is_true _ tests.1)
     where
       few : num x * 2 ^ 30 ≤ 2 ^ 30 * den x
       few = le_trans (mul-le-mul_right (2 ^ 30) (within_small x h)) (le_of_eq (mul_comm (den x) (2 ^ 30)))

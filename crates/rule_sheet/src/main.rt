@@ -19,21 +19,17 @@ fn main(rt: HostRuntime) {
 // The buffer for the plan holds more than the longest.
 fn convert(rt: &HostRuntime, bytes: &[u8]) {
     let mut plan = io::buffer();
-    let answer = sheet_plan::write_plan(bytes, &mut plan);
-    let refusal = answer.refusal;
-    let n = answer.length;
-    if refusal != 0 {
-        refuse(rt, refusal);
-    } else {
-        let _ = streams::write_all(
-            &mut rt.stdout(),
-            &plan[..n],
-            b"rule_sheet: standard output",
-            &mut rt.stderr(),
-        );
+    match sheet_plan::write_plan(bytes, &mut plan) {
+        Ok(n) => {
+            let _ = streams::write_all(
+                &mut rt.stdout(),
+                &plan[..n],
+                b"rule_sheet: standard output",
+                &mut rt.stderr(),
+            );
+        }
+        Err(refusal) => {
+            let _ = eprintln!(rt; "refused {}", refusal.number());
+        }
     }
-}
-
-fn refuse(rt: &HostRuntime, refusal: u32) {
-    let _ = eprintln!(rt; "refused {refusal}");
 }

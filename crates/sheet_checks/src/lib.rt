@@ -4,29 +4,30 @@
 ghost use Rattle.std.specs.Prelude.{◌≡◌, true, not, ◌&&◌, ◌||◌, length};
 ghost use Rattle.std.specs.Float.Ieee.{lt, ne};
 ghost use Rattle.std.specs.Float.Ieee.Scale.{finite};
-ghost use Rattle.model.specs.Refusal.{first, HeadAccepted};
+ghost use Rattle.model.specs.Refusal.{first, refused_with, HeadAccepted};
 ghost use Rattle.doubles.specs.Doubles.{nought, one, within};
 ghost use Rattle.sheet_values.specs.Sheet.{sheet_length, sheet_of, sheet_head};
 ghost use Rattle.sheet_checks.specs.Refusal.{is_level, kind_checks, rule_checks, weight_checks, sheet_checks};
 
 use doubles::is_finite;
-use model::SCALE;
+use model::{Refusal, SCALE};
 use numbers::big_endian;
+use plan::check_head;
 use plan::lengths::largest_level;
 use sheet_values::bytes::double;
 use sheet_values::rules::{some_outside, weights_total};
 use sheet_values::{ChanceRule, Kind, RuleSheet, UnknownKind, bytes};
 
 // 5 length, 12 kind.
-fn kind_refusal(bytes: &[u8]) -> u32
-    ensures { result ≡ first (kind_checks bytes.now) }
+fn check_kind(bytes: &[u8]) -> Result<(), Refusal>
+    ensures { refused_with result ≡ first (kind_checks bytes.now) }
 {
     if bytes.len() != bytes::LENGTH {
-        return 5;
+        return Err(Refusal::Length);
     }
     match Kind::try_from(big_endian(bytes, bytes::KIND, 1)) {
-        Ok(_) => 0,
-        Err(UnknownKind) => 12,
+        Ok(_) => Ok(()),
+        Err(UnknownKind) => Err(Refusal::Kind),
     }
 }
 
@@ -54,66 +55,56 @@ fn level_steps(rule: ChanceRule, step: f64) -> bool
 }
 
 // 13 rule.
-fn rule_refusal(bytes: &[u8]) -> u32
+fn check_rule(bytes: &[u8]) -> Result<(), Refusal>
     requires bytes_len { length bytes.now ≡ sheet_length }
     requires head_accepted { HeadAccepted (sheet_head (sheet_of bytes.now)) }
-    ensures { result ≡ first (rule_checks bytes.now) }
+    ensures { refused_with result ≡ first (rule_checks bytes.now) }
 {
     let sheet = bytes::sheet_of(bytes);
     let first = double(bytes, bytes::FIRST);
     let step = double(bytes, bytes::STEP);
     let alpha = double(bytes, bytes::ALPHA);
     if !all_finite(first, step, alpha) {
-        return 13;
+        return Err(Refusal::Rule);
     }
     if alpha_outside(alpha) {
-        return 13;
+        return Err(Refusal::Rule);
     }
     let rule = sheet.rule;
     if level_steps(rule, step) {
-        return 13;
+        return Err(Refusal::Rule);
     }
     if some_outside(rule, sheet.months) {
-        return 13;
+        return Err(Refusal::Rule);
     }
-    0
+    Ok(())
 }
 
 // 8 weights, which no sheet should reach, and 9 tail.
-fn weight_refusal(sheet: RuleSheet) -> u32
+fn check_weights(sheet: RuleSheet) -> Result<(), Refusal>
     requires { HeadAccepted (sheet_head sheet) × (within sheet.alpha ≡ true) }
-    ensures { result ≡ first (weight_checks sheet) }
+    ensures { refused_with result ≡ first (weight_checks sheet) }
 {
     let sizes = sheet.sizes;
     let alpha = sheet.alpha;
     let total = weights_total(alpha, sizes);
     let scale = u64::from(SCALE);
     if scale < total {
-        return 8;
+        return Err(Refusal::Weights);
     }
     if total < scale && sizes + 1 < largest_level(bytes::head_of(sheet)) {
-        return 9;
+        return Err(Refusal::Tail);
     }
-    0
+    Ok(())
 }
 
-// The first check that fits a sheet's bytes, 0 if there is none. That of lent memory comes after these.
-pub fn refusal(bytes: &[u8]) -> u32
-    ensures { result ≡ first (sheet_checks bytes.now) }
+// The first check that fits a sheet's bytes. That of lent memory comes after these.
+pub fn check(bytes: &[u8]) -> Result<(), Refusal>
+    ensures { refused_with result ≡ first (sheet_checks bytes.now) }
 {
-    let unread = kind_refusal(bytes);
-    if unread != 0 {
-        return unread;
-    }
+    check_kind(bytes)?;
     let sheet = bytes::sheet_of(bytes);
-    let head = bytes::head_of(sheet);
-    let outside = plan::head_refusal(head);
-    if outside != 0 {
-        return outside;
-    }
-    let broken = rule_refusal(bytes);
-    if broken != 0 {
-        return broken;
-    }
-    weight_refusal(sheet)
+    check_head(bytes::head_of(sheet))?;
+    check_rule(bytes)?;
+    check_weights(sheet)
 }

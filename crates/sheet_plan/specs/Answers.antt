@@ -3,9 +3,7 @@ use Rattle.std.specs.Prelude.{ℕ, List, length}
 use Rattle.model.specs.declared.Head.{Head}
 use Rattle.model.specs.Plan.{row_length}
 use Rattle.model.specs.Format.{byte_length, bytes_of}
-use Rattle.codec.specs.declared.ReadAnswer.{ReadAnswer}
-use Rattle.codec.specs.declared.WriteAnswer.{WriteAnswer}
-use Rattle.codec.specs.Answers.{head_answer, length_answer}
+use Rattle.codec.specs.Answers.{ReadAnswer, WriteAnswer, head_answer, length_answer}
 use Rattle.model.specs.Memory.{filled_after}
 use Rattle.sheet_values.specs.Sheet.{sheet_of, sheet_head}
 use Rattle.sheet_values.specs.Rules.{sheet_row}

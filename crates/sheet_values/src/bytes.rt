@@ -31,7 +31,8 @@ pub fn double(bytes: &[u8], at: usize) -> f64
     doubles::of_bits(big_endian(bytes, at, 8) as u64)
 }
 
-// The rule of a sheet's kind. A number that no kind has, which a sheet's checks turn away, is read as a ramp's.
+// The rule of a sheet's kind. A number that no kind has, which a sheet's checks turn away, is read as a ramp's: the definition `sheet_rule` has a rule for every
+// number, so that this takes the number and not a `Kind`.
 fn rule_of(kind: usize, first: f64, step: f64) -> ChanceRule
     ensures { result ≡ cond (eqb kind 1) (ChanceRule.Level first) (ChanceRule.Ramp first step) }
 {

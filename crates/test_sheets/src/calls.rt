@@ -10,7 +10,8 @@ const ROW: usize = limits::ROW + 6;
 
 const BYTES: usize = 1800;
 
-// The second `ensures` gives the length, which lending a part of the array needs.
+// The second `ensures` gives the length, which lending a part of the array needs. One function for any number and length would need it as a const
+// parameter that its contract names too, and would be no plainer than these two.
 fn row() -> [u32; ROW]
     ensures filled { result ≡ replicate row_capacity 4294967295 }
     ensures sized { row_capacity ≡ length result }
@@ -33,13 +34,10 @@ pub fn read(room: usize, sheet: &[u8]) {
 }
 
 fn read_into(sheet: &[u8], row: &mut [u32]) {
-    let answer = sheet_plan::read(sheet, row);
-    let head = answer.head;
-    io::print_decimal(STDOUT_FILENO, u64::from(answer.refusal));
-    next(head.months as u64);
-    next(head.opening as u64);
-    next(head.sizes as u64);
-    next(head.income as u64);
+    match sheet_plan::read(sheet, row) {
+        Ok(head) => start(0, [head.months, head.opening, head.sizes, head.income]),
+        Err(refusal) => start(refusal.number(), [0; 4]),
+    }
     end_with(row);
 }
 
@@ -51,24 +49,23 @@ pub fn write_plan(room: usize, sheet: &[u8]) {
 }
 
 fn write_into(sheet: &[u8], plan: &mut [u8]) {
-    let answer = sheet_plan::write_plan(sheet, plan);
-    io::print_decimal(STDOUT_FILENO, u64::from(answer.refusal));
-    next(answer.length as u64);
+    match sheet_plan::write_plan(sheet, plan) {
+        Ok(length) => start(0, [length]),
+        Err(refusal) => start(refusal.number(), [0]),
+    }
     end_with(plan);
 }
 
 // The reserve report of the sheet's plan.
 pub fn report(sheet: &[u8]) {
     let mut plan = io::buffer();
-    let answer = sheet_plan::write_plan(sheet, &mut plan);
-    let refusal = answer.refusal;
-    let n = answer.length;
-    if refusal != 0 {
-        io::write_all(STDOUT_FILENO, b"refused");
-        next(u64::from(refusal));
-        end();
-    } else {
-        print_report(&plan[..n]);
+    match sheet_plan::write_plan(sheet, &mut plan) {
+        Ok(n) => print_report(&plan[..n]),
+        Err(refusal) => {
+            io::write_all(STDOUT_FILENO, b"refused");
+            next(u64::from(refusal.number()));
+            end();
+        }
     }
 }
 
@@ -76,6 +73,14 @@ fn print_report(plan: &[u8]) {
     let mut text = io::large_buffer();
     let n = report_text::report(plan, &mut text);
     io::write_all(STDOUT_FILENO, &text[..n]);
+}
+
+// The refusal's number, 0 where nothing is refused, and the numbers answered, which are 0 where it is.
+fn start<const N: usize>(refusal: u32, answered: [usize; N]) {
+    io::print_decimal(STDOUT_FILENO, u64::from(refusal));
+    for x in answered {
+        next(x as u64);
+    }
 }
 
 fn end_with<T: Copy + Into<u64>>(numbers: &[T]) {

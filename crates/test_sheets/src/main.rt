@@ -36,6 +36,7 @@ fn next_call() -> bool {
     true
 }
 
+// The kind is a byte of the list, matched here and nowhere else, so that an enum with a conversion from it would be no plainer.
 fn read_sheet(kind: u8, room: usize, bytes: &mut [u8]) {
     io::read_full(STDIN_FILENO, bytes);
     match kind {

@@ -7,7 +7,6 @@ ghost use Rattle.test_tables.specs.Rounded.{ten_thousandths};
 
 use model::{Ask, Head, Question, SCALE, limits};
 use plan::lengths::row_length;
-use rooms::blank_row;
 
 // The descriptors that every program is started with.
 const STDIN_FILENO: i32 = 0;
@@ -40,23 +39,24 @@ fn next_plan() -> bool {
 
 fn read_plan(bytes: &mut [u8]) {
     io::read_full(STDIN_FILENO, bytes);
-    let mut row = blank_row();
-    let answer = codec::read(bytes, &mut row);
-    let head = answer.head;
-    if plan::head_refusal(head) != 0 {
+    let Ok(plan) = codec::read_plan(bytes) else {
         return;
-    }
-    let used = row_length(head);
-    print_survival(head, &row[..used]);
+    };
+    let row = plan.row;
+    let used = row_length(plan.head);
+    print_survival(plan.head, &row[..used]);
 }
 
+// Nothing is refused here: a plan that was read is accepted, and the workspace has room for every question.
 fn print_survival(head: Head, row: &[u32]) {
     let mut workspace = [0u32; limits::WORKSPACE];
     let question = Question::Survive;
-    let answer = engine::ask(Ask { head, question }, row, &mut workspace);
-    io::print_decimal(STDOUT_FILENO, rounded(answer.lower));
+    let Ok(bounds) = engine::ask(Ask { head, question }, row, &mut workspace) else {
+        return;
+    };
+    io::print_decimal(STDOUT_FILENO, rounded(bounds.lower));
     io::write_all(STDOUT_FILENO, b" ");
-    io::print_decimal(STDOUT_FILENO, rounded(answer.upper));
+    io::print_decimal(STDOUT_FILENO, rounded(bounds.upper));
     io::write_all(STDOUT_FILENO, b"\n");
 }
 

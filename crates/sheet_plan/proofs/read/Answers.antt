@@ -1,14 +1,14 @@
 -- `sheet_plan::read` meets its contract. The row is stored to on the last path alone, where nothing is refused.
 use Prim.Native.Nat.{ℕ}
-use mathlib.Core.Path.{◌≡◌, sym, ap, ap₂, ◌∙◌}
+use mathlib.Core.Path.{◌≡◌, refl, sym, ap, ap₂, ◌∙◌}
 use mathlib.Core.List.{List, ◌++◌}
 use native.Mathlib.Omega.{arith}
 use lib.ListN.{length, drop}
 use lib.Seq.{length-take-le}
 use Rattle.model.specs.Plan.{row_length}
 use Rattle.model.specs.Refusal.{first}
-use Rattle.codec.specs.declared.ReadAnswer.{ReadAnswer}
-use Rattle.codec.specs.Answers.{no_head}
+use Rattle.model.proofs.RefusalNumbers.{not_accepted, handed_on}
+use Rattle.codec.specs.Answers.{head_result, no_head}
 use Rattle.codec.proofs.Answered.{read_as, head_answered, head_refused}
 use Rattle.model.proofs.MemoryLaws.{filled, kept}
 use Rattle.sheet_values.specs.Sheet.{sheet_head}
@@ -17,7 +17,7 @@ use Rattle.sheet_checks.specs.Refusal.{sheet_checks, sheet_refusal}
 use Rattle.sheet_plan.specs.Answers.{plan_head, sheet_answer, sheet_row_after}
 use Rattle.sheet_checks.proofs.CheckLaws.{SheetFacts, sheet_facts, refused_early, refused_short, accepted}
 use Rattle.sheet_plan.proofs.read.Goals as goal
-use Rattle.sheet_plan.proofs.read.Goals.{After-head_of-head, After-row_length-count, Else-refused-ne0}
+use Rattle.sheet_plan.proofs.read.Goals.{After-head_of-head, After-row_length-count, In_ok-check}
 
 -- what a refusal with a number answers and leaves
 refused :
@@ -27,26 +27,23 @@ refused bytes row n is some =
     let some-here : sheet_refusal bytes (row_length (plan_head bytes)) (length row) ≡ 0 → ⊥ = λ z. some (sym is ∙ z) in
     (ap (λ k. read_as k no_head) (sym is) ∙ sym (head_refused _ _ some-here), sym (kept _ _ _ _ some-here))
 
--- an answer of its two numbers
-answer : (r : ReadAnswer) (n : ℕ) → (r.refusal ≡ n) × (r.head ≡ no_head) → r ≡ read_as n no_head
-answer r n e = λ i. record { refusal = e.0 i; head = e.1 i }
-
-pub returns-then-refused-ne0 : goal.returns-then-refused-ne0
-returns-then-refused-ne0 c =
+pub returns-in_err-check : goal.returns-in_err-check
+returns-in_err-check c =
     let bytes = c.args.bytes.now in
     let row = c.args.row.now in
-    let is = refused_early bytes (row_length (plan_head bytes)) (length row) (λ z. c.if-refused-ne0.true (c.refusal-refused.ensures ∙ z)) in
-    let both = refused bytes row c.refusal-refused.result (is ∙ sym c.refusal-refused.ensures) c.if-refused-ne0.true in
-    record { answer = answer _ _ c.no_plan.ensures ∙ both.0; memory = both.1 }
+    let number = c.in_err-check.ensures in
+    let is = refused_early bytes (row_length (plan_head bytes)) (length row) (not_accepted _ _ number) in
+    let both = refused bytes row _ (is ∙ sym number) (not_accepted _ _ refl) in
+    record { answer = ap head_result (handed_on _ _ c.from_residual.ensures.1) ∙ both.0; memory = both.1 }
 
-none : (c : Else-refused-ne0) → first (sheet_checks c.args.bytes.now) ≡ 0
-none c = sym c.refusal-refused.ensures ∙ c.if-refused-ne0.false
+none : (c : In_ok-check) → first (sheet_checks c.args.bytes.now) ≡ 0
+none c = sym c.in_ok-check.ensures
 
-known : (c : Else-refused-ne0) → SheetFacts c.args.bytes.now
+known : (c : In_ok-check) → SheetFacts c.args.bytes.now
 known c = sheet_facts _ (none c)
 
 pub sheet_of-sheet-requires : goal.sheet_of-sheet-requires
-sheet_of-sheet-requires c = (known (goal.at.sheet_of-sheet-requires c).Else-refused-ne0).length_is
+sheet_of-sheet-requires c = (known (goal.at.sheet_of-sheet-requires c).In_ok-check).length_is
 
 head_is : (c : After-head_of-head) → c.head_of-head.result ≡ plan_head c.args.bytes.now
 head_is c = c.head_of-head.ensures ∙ ap sheet_head c.sheet_of-sheet.ensures
@@ -54,7 +51,7 @@ head_is c = c.head_of-head.ensures ∙ ap sheet_head c.sheet_of-sheet.ensures
 pub row_length-count-requires : goal.row_length-count-requires
 row_length-count-requires c =
     let at = goal.at.row_length-count-requires c in
-    rw (head_is at.After-head_of-head) (known at.Else-refused-ne0).head_ok
+    rw (head_is at.After-head_of-head) (known at.In_ok-check).head_ok
 
 -- `head` is `head_is`
 count_is :
@@ -68,9 +65,9 @@ returns-then-row-count c =
     let bytes = c.args.bytes.now in
     let row = c.args.row.now in
     let count = count_is at.After-row_length-count (head_is at.After-head_of-head) in
-    let is = refused_short bytes (row_length (plan_head bytes)) (length row) (none at.Else-refused-ne0) (omega (arith, count, c.if-row-count.true)) in
+    let is = refused_short bytes (row_length (plan_head bytes)) (length row) (none at.In_ok-check) (omega (arith, count, c.if-row-count.true)) in
     let both = refused bytes row 11 is (λ z. omega (arith, z)) in
-    record { answer = answer _ 11 c.no_plan-then-row-count.ensures ∙ both.0; memory = both.1 }
+    record { answer = both.0; memory = both.1 }
 
 pub slice_bounds-put_row-end-2 : goal.slice_bounds-put_row-end-2
 slice_bounds-put_row-end-2 c = sym (length-take-le _ _ c.if-row-count.false)
@@ -79,7 +76,7 @@ pub put_row-requires : goal.put_row-requires
 put_row-requires c =
     let at = goal.at.put_row-requires c in
     record {
-      makes_plan = rw c.sheet_of-sheet.ensures (known at.Else-refused-ne0).makes_plan;
+      makes_plan = rw c.sheet_of-sheet.ensures (known at.In_ok-check).makes_plan;
       row_len = length-take-le _ _ c.if-row-count.false ∙ c.row_length-count.ensures ∙ ap row_length c.head_of-head.ensures;
     }
 
@@ -90,7 +87,7 @@ returns c =
     let row = c.args.row.now in
     let head = head_is at.After-head_of-head in
     let count = count_is at.After-row_length-count head in
-    let none_here = accepted bytes (row_length (plan_head bytes)) (length row) (none at.Else-refused-ne0) (omega (arith, count, c.if-row-count.false)) in
+    let none_here = accepted bytes (row_length (plan_head bytes)) (length row) (none at.In_ok-check) (omega (arith, count, c.if-row-count.false)) in
     let stored = c.put_row.ensures ∙ ap sheet_row c.sheet_of-sheet.ensures in
     record {
       answer = ap (read_as 0) head ∙ sym (head_answered _ _ none_here);

@@ -1,9 +1,9 @@
--- `sheet_checks::kind_refusal` meets its contract.
+-- `sheet_checks::check_kind` meets its contract.
 use mathlib.Core.Path.{◌≡◌, sym, ◌∙◌}
 use Rattle.sheet_values.specs.Sheet.{number_at, kind_of}
 use Rattle.sheet_checks.proofs.CheckLaws.{not_a_sheet, known_kind, other_kind}
-use Rattle.sheet_checks.proofs.kind_refusal.Goals as goal
-use Rattle.sheet_checks.proofs.kind_refusal.Goals.{After-big_endian}
+use Rattle.sheet_checks.proofs.check_kind.Goals as goal
+use Rattle.sheet_checks.proofs.check_kind.Goals.{After-big_endian}
 
 pub returns-then-bytes-ne-LENGTH : goal.returns-then-bytes-ne-LENGTH
 returns-then-bytes-ne-LENGTH c = sym (not_a_sheet c.args.bytes.now c.if-bytes-ne-LENGTH.true)

@@ -1,4 +1,4 @@
--- `sheet_checks::weight_refusal` meets its contract.
+-- `sheet_checks::check_weights` meets its contract.
 use mathlib.Core.Path.{sym, ap, ◌∙◌}
 use native.Mathlib.Omega.{arith}
 use Rattle.model.specs.Scale.{S}
@@ -6,8 +6,8 @@ use Rattle.model.specs.Levels.{largest_level}
 use Rattle.model.proofs.Facts.{HeadFacts, head_facts}
 use Rattle.sheet_values.specs.Sheet.{sheet_head}
 use Rattle.sheet_checks.proofs.CheckLaws.{weights_pass, no_tail, tail_survives, tail_ruins}
-use Rattle.sheet_checks.proofs.weight_refusal.Goals as goal
-use Rattle.sheet_checks.proofs.weight_refusal.Goals.{Start, After-largest_level, else-total-scale-via-then-total-scale+else-sizes-largest_level, else-total-scale-via-else-total-scale}
+use Rattle.sheet_checks.proofs.check_weights.Goals as goal
+use Rattle.sheet_checks.proofs.check_weights.Goals.{Start, After-largest_level, else-total-scale-via-then-total-scale+else-sizes-largest_level, else-total-scale-via-else-total-scale}
 
 limits : (c : Start) → HeadFacts (sheet_head c.args.sheet)
 limits c = head_facts _ c.requires.0

@@ -1,4 +1,4 @@
--- `sheet_checks::rule_refusal` meets its contract: its tests are those of the checks, one by one.
+-- `sheet_checks::check_rule` meets its contract: its tests are those of the checks, one by one.
 use mathlib.Core.Path.{◌≡◌, sym, ap, ◌∙◌}
 use mathlib.Core.Bool.{not, ◌&&◌, ◌||◌, cond}
 use native.Mathlib.Omega.{arith}
@@ -12,8 +12,8 @@ use Rattle.sheet_values.specs.Sheet.{step_of, sheet_head}
 use Rattle.sheet_values.specs.Rules.{chance}
 use Rattle.sheet_checks.specs.Refusal.{is_level, rule_checks}
 use Rattle.sheet_checks.proofs.CheckLaws.{finite_test, alpha_test, step_test, chance_test, is_level_kind, rules_first}
-use Rattle.sheet_checks.proofs.rule_refusal.Goals as goal
-use Rattle.sheet_checks.proofs.rule_refusal.Goals.{After-all_finite, After-alpha_outside, After-level_steps, After-some_outside, Else-alpha_outside, Else-level_steps, Else-not-all_finite}
+use Rattle.sheet_checks.proofs.check_rule.Goals as goal
+use Rattle.sheet_checks.proofs.check_rule.Goals.{After-all_finite, After-alpha_outside, After-level_steps, After-some_outside, Else-alpha_outside, Else-level_steps, Else-not-all_finite}
 
 finite-is : (c : After-all_finite) → finite_test c.args.bytes.now ≡ c.all_finite.result
 finite-is c =
