@@ -23,8 +23,7 @@ use Rattle.count_row.specs.declared.CountRow.{CountRow}
 use Rattle.claims.specs.Values.{Parts}
 use Rattle.month_rows.specs.Rows.{at}
 use Rattle.count_row.specs.Counts.{CountParts, rows_after}
-use Rattle.count_row.specs.declared.CountAnswer.{CountAnswer}
-use Rattle.count_row.specs.Answers.{count_rows, count_refused, count_answer}
+use Rattle.count_row.specs.Answers.{CountAnswer, count_rows, count_refused, count_answer}
 use Rattle.model.proofs.Counts.{length_tabulate, get_d_tabulate, count_month_fits, no_months_fit}
 
 -- the row after one more month
@@ -206,13 +205,9 @@ counting_rows_end chances row t e c =
     λ i. record { lower = low i; upper = high i }
 
 -- the answer of a refusal, and of the rows of a plan's chances
-pub refused_answer : (h : Head) (row : List ℕ) (n : ℕ) (r : CountAnswer) → n ≡ plan_refusal h row → (n ≡ 0 → ⊥) → r ≡ count_refused n → r ≡ count_answer h row
+pub refused_answer : (h : Head) (row : List ℕ) (n : ℕ) → n ≡ plan_refusal h row → (n ≡ 0 → ⊥) → count_refused n ≡ count_answer h row
 unfolding count_answer
-refused_answer h row n r e ne er = rw (er, ← e, ne_eqb n 0 ne)
-
-pub refused_number : (n : ℕ) → (count_refused n).refusal ≡ n
-unfolding count_refused
-refused_number n = refl
+refused_answer h row n e ne = rw (← e, ne_eqb n 0 ne)
 
 pub chances_are : (h : Head) (row : List ℕ) → (plan_of h row).chances ≡ take h.months row
 unfolding plan_of

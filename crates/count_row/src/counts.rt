@@ -5,9 +5,9 @@ ghost use Rattle.model.specs.CountRow.{count_month, tabulate};
 ghost use Rattle.claims.specs.Values.{Parts};
 ghost use Rattle.month_rows.specs.Rows.{at};
 ghost use Rattle.count_row.specs.Counts.{CountParts, rows_after};
-ghost use Rattle.count_row.specs.Answers.{count_rows, count_refused};
+ghost use Rattle.count_row.specs.Answers.{count_rows};
 
-use crate::{CountAnswer, CountRow};
+use crate::CountRow;
 use model::{Rounding, limits};
 use rounding::mixture;
 
@@ -20,19 +20,6 @@ fn count_month(row: &mut [u32], chance: u32, round: Rounding)
         row[k] = mixture(chance, row[k], row[k - 1], round);
     }
     row[0] = mixture(chance, row[0], 0, round);
-}
-
-// The answer of a refusal.
-pub fn refused(refusal: u32) -> CountAnswer
-    ensures { result ≡ count_refused refusal }
-{
-    CountAnswer {
-        refusal,
-        row: CountRow {
-            lower: [0; limits::PLACES],
-            upper: [0; limits::PLACES],
-        },
-    }
 }
 
 // The rows after no months: no claim for sure.

@@ -3,13 +3,13 @@
 
 mod counts;
 
-ghost use Rattle.std.specs.Prelude.{◌≡◌, ℕ, ◌<◌, get_or};
+ghost use Rattle.std.specs.Prelude.{◌≡◌, ℕ, ◌<◌, IfOk, get_or};
 ghost use Rattle.model.specs.Limits.{places};
 ghost use Rattle.model.specs.Plan.{plan_of};
 ghost use Rattle.model.specs.Bounds.{EnclosesCount};
-ghost use Rattle.count_row.specs.Answers.{count_answer};
+ghost use Rattle.count_row.specs.Answers.{count_answer, count_result};
 
-use model::{Head, limits};
+use model::{Head, Refusal, limits};
 
 // The count row: bounds for each number of claims from 0 to the longest plan's.
 #[derive(Clone, Copy)]
@@ -18,26 +18,12 @@ pub struct CountRow {
     pub upper: [u32; limits::PLACES],
 }
 
-// The answer of the count row call.
-#[derive(Clone, Copy)]
-pub struct CountAnswer {
-    pub refusal: u32,
-    pub row: CountRow,
-}
-
 // The bounds for each number of claims in the plan's months, ruin or not.
-pub fn count_claims(head: Head, row: &[u32]) -> CountAnswer
-    ensures answered { result ≡ count_answer head row.now }
-    ensures encloses { result.refusal ≡ 0 → (k : ℕ) → k < places →
-        EnclosesCount (plan_of head row.now) k (get_or result.row.lower k 0) (get_or result.row.upper k 0) }
+pub fn count_claims(head: Head, row: &[u32]) -> Result<CountRow, Refusal>
+    ensures answered { count_result result ≡ count_answer head row.now }
+    ensures encloses { IfOk result (λ r. (k : ℕ) → k < places →
+        EnclosesCount (plan_of head row.now) k (get_or r.lower k 0) (get_or r.upper k 0)) }
 {
-    let number = plan::plan_refusal(head, row);
-    if number != 0 {
-        return counts::refused(number);
-    }
-    let months = head.months;
-    CountAnswer {
-        refusal: 0,
-        row: counts::count_rows(&row[..months]),
-    }
+    plan::check_plan(head, row)?;
+    Ok(counts::count_rows(&row[..head.months]))
 }

@@ -11,9 +11,8 @@ use lib.Seq.{drop_at, length-take-le}
 use Rattle.model.specs.declared.Rounding.TheVariants.{Down, Up}
 use Rattle.month_rule.proofs.HalfLaws.{second_lent, after_both}
 use Rattle.questions.specs.Survival.{survival_row}
-use Rattle.opening_search.specs.declared.LeastAnswer.{LeastAnswer}
 use Rattle.target_rows.specs.Least.{least}
-use Rattle.opening_search.specs.Answers.{refused}
+use Rattle.opening_search.specs.Answers.{LeastAnswer, refused}
 use Rattle.opening_search.specs.Search.{search_answer}
 
 -- the answer, from the least opening: one above the largest where none reaches the target

@@ -4,10 +4,13 @@ use mathlib.Core.Path.{◌≡◌, refl, sym, ◌∙◌, ap, fun_ext}
 use mathlib.Core.Bool.{Bool, true, false, cond}
 use mathlib.Core.List.{List, [], ◌∷◌}
 use native.Mathlib.Omega.{arith}
+use Rattle.std.specs.Prelude.{Result, Ok, Err, IfOk}
 use lib.Dec.{leb, ltb, eqb}
 use lib.ListN.{length, take, drop}
 use borrow.Author.Tests.{lt-leb, leb-true, leb-false, ltb-true, ltb-false, lt-ltb, ne_eqb, eqb-false}
 use Rattle.model.specs.declared.Head.{Head}
+use Rattle.model.specs.declared.refusal.Refusal.{Refusal}
+use Rattle.model.specs.declared.refusal.Refusal.TheVariants.{Unreached}
 use Rattle.model.specs.declared.Rounding.{Rounding}
 use Rattle.model.specs.declared.Rounding.TheVariants.{Down, Up}
 use Rattle.model.specs.declared.Question.TheVariants.{Survive}
@@ -16,14 +19,14 @@ use Rattle.model.specs.Scale.{S}
 use Rattle.model.specs.Sums.{all}
 use Rattle.model.specs.Plan.{plan_of, opened}
 use Rattle.model.specs.Bounds.{lower, upper, EnclosesQuestion}
-use Rattle.model.specs.Refusal.{first, head_checks, length_check, number_checks, plan_checks, asked_checks, bounds_checks, bounds_refusal, Accepted, outside, survival_workspace}
+use Rattle.model.specs.Refusal.{refusal_number, first, head_checks, length_check, number_checks, plan_checks, asked_checks, bounds_checks, bounds_refusal, Accepted, outside, survival_workspace}
 use Rattle.model.proofs.Facts.{neither, not_zero, numbered, none_fits, none_fits_append, first_append, first_lacks, last_given, accepted_head, opened_accepted}
+use Rattle.model.proofs.RefusalNumbers.{not_accepted}
 use Rattle.model.proofs.Theorems.{enclosure}
-use Rattle.engine.specs.declared.Answer.{Answer}
-use Rattle.engine.specs.Answers.{bounds_answer, answer}
+use Rattle.engine.specs.Answers.{Answer, bounds_answer, answer}
 use Rattle.engine.proofs.AnswerLaws.{severity_lent}
 use Rattle.questions.proofs.RefusalLaws.{Asked, asked, asked_inside, asked_decides, bounds_refusal_is, bounds_numbered}
-use Rattle.opening_search.specs.declared.LeastAnswer.{LeastAnswer}
+use Rattle.opening_search.specs.declared.LeastOpening.{LeastOpening}
 use Rattle.target_rows.specs.Least.{least}
 use Rattle.opening_search.specs.Least.{reaches, least_opening}
 use Rattle.opening_search.specs.Refusal.{target_outside, target_checks, target_refusal, none_reaches, least_refusal}
@@ -31,7 +34,7 @@ use Rattle.survival.specs.Openings.{opening_ask}
 use Rattle.questions.specs.Survival.{survival_row}
 use Rattle.questions.proofs.SurvivalLaws.{bound_at}
 use Rattle.survival.proofs.Theorems.{asked_with, workspace_suffices}
-use Rattle.opening_search.specs.Answers.{refused, found, least_answer, least_workspace_after, Misses, Least}
+use Rattle.opening_search.specs.Answers.{LeastAnswer, least_result, refused, found, least_answer, least_workspace_after, Misses, Least}
 use Rattle.opening_search.specs.Search.{search_answer}
 use Rattle.target_rows.proofs.LeastLaws.{IsLeast, is_least, least_none}
 
@@ -120,6 +123,10 @@ module _ (h : Head) (row : List ℕ) (target room : ℕ) where
   pub refused_is : (n : ℕ) (r : LeastAnswer) → r ≡ refused n → n ≡ early → (n ≡ 0 → ⊥) → r ≡ least_answer h row target room
   unfolding least_answer
   refused_is n r er e ne = er ∙ sym (rw (number_is, ← e, ne_eqb n 0 ne, ne_eqb n 0 ne))
+
+  pub refused_result : (e : Refusal) → refusal_number e ≡ early → least_result (Err e) ≡ least_answer h row target room
+  unfolding refused
+  refused_result e is = refused_is (refusal_number e) _ refl is (not_accepted e _ refl)
 
   -- where no check before 15 fits, asking with any smaller opening is not refused
   module _ (unrefused : early ≡ 0) where
@@ -255,3 +262,25 @@ clauses h row target ws ws' r e cleared = (
     ),
   ),
 )
+
+-- What holds of the answer of any result that is not a refusal …
+when_ok : (P : LeastAnswer → Type 0) (r : Result LeastOpening Refusal) → ((least_result r).refusal ≡ 0 → P (least_result r)) → IfOk r (λ l. P (least_result (Ok l)))
+when_ok P (Ok l) holds = holds refl
+when_ok P (Err e) holds = _
+
+-- … so that the clauses of a result are those of its answer.
+pub result_clauses :
+    (h : Head) (row : List ℕ) (target : ℕ) (ws ws' : List ℕ) (r : Result LeastOpening Refusal) → least_result r ≡ least_answer h row target (length ws) →
+    ws' ≡ least_workspace_after h row target ws →
+    IfOk r (λ l. Least h row target (length ws) (least_result (Ok l)))
+    × ((r ≡ Err Unreached → (v : ℕ) → v ≤ h.opening → Misses h row target (length ws) v)
+    × IfOk r (λ l. EnclosesQuestion (plan_of (opened h l.opening) row) Survive l.bounds.lower l.bounds.upper))
+result_clauses h row target ws ws' r e cleared =
+    let both = clauses h row target ws ws' (least_result r) e cleared in
+    let rest = both.1.1 in (
+      when_ok (λ a. Least h row target (length ws) a) r rest.0,
+      (
+        λ z. rest.1.0 (ap (λ x. (least_result x).refusal) z),
+        when_ok (λ a. EnclosesQuestion (plan_of (opened h a.opening) row) Survive a.lower a.upper) r rest.1.1,
+      ),
+    )

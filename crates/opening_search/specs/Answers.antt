@@ -1,16 +1,29 @@
 -- What the call answers and leaves in lent memory, for every input.
-use Rattle.std.specs.Prelude.{ℕ, ◌<◌, ◌≤◌, ◌≡◌, cond, List, eqb, length}
+use Rattle.std.specs.Prelude.{ℕ, ◌<◌, ◌≤◌, ◌≡◌, cond, List, eqb, length, Result, Ok, Err}
 use Rattle.model.specs.declared.Head.{Head}
+use Rattle.model.specs.declared.refusal.Refusal.{Refusal}
 use Rattle.model.specs.declared.Question.TheVariants.{Survive}
 use Rattle.model.specs.Plan.{Plan, plan_of, opened}
 use Rattle.model.specs.Bounds.{lower, upper}
-use Rattle.model.specs.Refusal.{survival_workspace}
+use Rattle.model.specs.Refusal.{refusal_number, survival_workspace}
 use Rattle.engine.specs.Answers.{bounds_answer, answer}
 use Rattle.model.specs.Memory.{cleared_after}
 use Rattle.survival.specs.Openings.{opening_ask}
-use Rattle.opening_search.specs.declared.LeastAnswer.{LeastAnswer}
+use Rattle.opening_search.specs.declared.LeastOpening.{LeastOpening}
 use Rattle.opening_search.specs.Least.{least_opening}
 use Rattle.opening_search.specs.Refusal.{target_refusal, least_refusal}
+
+-- what the call answers in the paper's words: the refusal's number, 0 if there is none, or the least opening, with its bounds of survival in parts of 2^30
+pub record LeastAnswer : Type 0 where
+  pub refusal : ℕ
+  pub opening : ℕ
+  pub lower : ℕ
+  pub upper : ℕ
+
+-- what the call answers, so read
+abbrev pub least_result : Result LeastOpening Refusal → LeastAnswer
+least_result (Ok l) = record { refusal = 0; opening = l.opening; lower = l.bounds.lower; upper = l.bounds.upper }
+least_result (Err r) = record { refusal = refusal_number r; opening = 0; lower = 0; upper = 0 }
 
 -- the answer of a refusal
 unfoldable pub refused : ℕ → LeastAnswer

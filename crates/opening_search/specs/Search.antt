@@ -3,8 +3,7 @@ use Rattle.std.specs.Prelude.{ℕ, ◌+◌, cond, List, leb, ltb}
 use Rattle.model.specs.declared.Rounding.TheVariants.{Down, Up}
 use Rattle.questions.specs.Survival.{survival_row}
 use Rattle.target_rows.specs.Least.{least}
-use Rattle.opening_search.specs.declared.LeastAnswer.{LeastAnswer}
-use Rattle.opening_search.specs.Answers.{refused}
+use Rattle.opening_search.specs.Answers.{LeastAnswer, refused}
 
 -- the least opening's answer, from V_0 of either rounding: what the search gives
 unfoldable pub search_answer : ℕ → List ℕ → ℕ → List ℕ → ℕ → LeastAnswer

@@ -5,23 +5,13 @@ ghost use Rattle.model.specs.Scale.{S};
 ghost use Rattle.model.specs.Levels.{row_levels};
 ghost use Rattle.claims.specs.Listing.{Listing};
 ghost use Rattle.month_rule.specs.Months.{PlanTerms};
+ghost use Rattle.opening_search.specs.Answers.{least_result};
 ghost use Rattle.opening_search.specs.Search.{search_answer};
-ghost use Rattle.opening_search.specs.Answers.{refused as Answers·refused};
 
-use crate::LeastAnswer;
+use crate::LeastOpening;
 use claims::sizes::list_sizes;
+use model::{Bounds, Refusal};
 use target_rows::rows::{least_lower, upper_at};
-
-pub fn refused(refusal: u32) -> LeastAnswer
-    ensures { result ≡ Answers·refused refusal }
-{
-    LeastAnswer {
-        refusal,
-        opening: 0,
-        lower: 0,
-        upper: 0,
-    }
-}
 
 // With the listed sizes that are not empty.
 fn listed_search(
@@ -33,11 +23,11 @@ fn listed_search(
     sizes: &[usize],
     dense: usize,
     target: u32,
-) -> LeastAnswer
+) -> Result<LeastOpening, Refusal>
     requires income_nonzero { (0 < income) × (length workspace.old ≡ 2 * row_levels income opening (length chances.now)) }
     requires plan_terms { PlanTerms severity.now chances.now × Listing severity.now sizes.now dense }
     requires target_nonzero { (0 < target) × (target ≤ S) }
-    ensures answered { result ≡ search_answer income severity.now opening chances.now target }
+    ensures answered { least_result result ≡ search_answer income severity.now opening chances.now target }
     ensures cleared { workspace.new ≡ replicate (length workspace.old) 0 }
 {
     let half = opening + income * chances.len() + 1;
@@ -52,7 +42,7 @@ fn listed_search(
         dense,
         target,
     ) else {
-        return refused(15);
+        return Err(Refusal::Unreached);
     };
     let least = found.opening;
     let upper = upper_at(
@@ -64,12 +54,11 @@ fn listed_search(
         sizes,
         dense,
     );
-    LeastAnswer {
-        refusal: 0,
+    let lower = found.lower;
+    Ok(LeastOpening {
         opening: least,
-        lower: found.lower,
-        upper,
-    }
+        bounds: Bounds { lower, upper },
+    })
 }
 
 // The sizes that are not empty are listed once for all of it.
@@ -80,11 +69,11 @@ pub fn search(
     chances: &[u32],
     severity: &[u32],
     target: u32,
-) -> LeastAnswer
+) -> Result<LeastOpening, Refusal>
     requires income_nonzero { (0 < income) × (length workspace.old ≡ 2 * row_levels income opening (length chances.now)) }
     requires plan_terms { PlanTerms severity.now chances.now }
     requires target_nonzero { (0 < target) × (target ≤ S) }
-    ensures answered { result ≡ search_answer income severity.now opening chances.now target }
+    ensures answered { least_result result ≡ search_answer income severity.now opening chances.now target }
     ensures cleared { workspace.new ≡ replicate (length workspace.old) 0 }
 {
     let filled = list_sizes(severity);

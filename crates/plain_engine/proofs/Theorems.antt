@@ -15,17 +15,20 @@ use Rattle.model.specs.Limits.{max_small_months, max_small_opening, small_income
 use Rattle.model.specs.Plan.{plan_of}
 use Rattle.model.specs.MonthRule.{kept, month, values, value, rule_of, last_of, claims_of, opening_allowed}
 use Rattle.model.specs.Bounds.{bound, lower, upper, EnclosesQuestion}
-use Rattle.model.specs.Refusal.{Accepted, first, outside, asked_checks, workspace_needed}
+use Rattle.model.specs.Refusal.{plan_refusal, Accepted, first, outside, asked_checks, workspace_needed}
 use Rattle.model.proofs.Facts.{neither}
 use Rattle.model.proofs.Theorems.{severity_fits, chances_fit, enclosure}
-use Rattle.questions.proofs.RefusalLaws.{asked_inside, not_refused}
-use Rattle.engine.specs.declared.Answer.{Answer}
-use Rattle.engine.specs.Answers.{refused, bounds_answer, answer}
+use Rattle.questions.proofs.RefusalLaws.{asked_is, asked_inside, not_refused}
+use Rattle.engine.specs.Answers.{Answer, refused, bounds_answer, answer}
 use Rattle.engine.proofs.AnswerLaws.{number_is, bounds_are, answer_worked, severity_lent}
 use Rattle.plain_engine.specs.Steps.{Terms}
 use Rattle.plain_engine.specs.Answers.{too_large, plain_refusal, plain_answer}
 
--- the refusal, by whether the plan is too large
+-- the refusal: the plan's, or else by whether the plan is too large
+pub plan_refused : (a : Ask) (row : List ℕ) (n : ℕ) → n ≡ plan_refusal a.head row → (n ≡ 0 → ⊥) → n ≡ plain_refusal a row
+unfolding plain_refusal
+plan_refused a row n e ne = rw (asked_is a.head row 10 _, ← e, ne_eqb n 0 ne)
+
 pub large_refused : (a : Ask) (row : List ℕ) → too_large a.head ≡ true → first (asked_checks a.head row (10, true)) ≡ plain_refusal a row
 unfolding plain_refusal
 large_refused a row e = rw e

@@ -6,8 +6,7 @@ use Rattle.model.specs.Limits.{max_small_months, max_small_opening, small_income
 use Rattle.model.specs.Plan.{Plan, plan_of}
 use Rattle.model.specs.Bounds.{lower, upper}
 use Rattle.model.specs.Refusal.{first, outside, asked_checks}
-use Rattle.engine.specs.declared.Answer.{Answer}
-use Rattle.engine.specs.Answers.{bounds_answer}
+use Rattle.engine.specs.Answers.{Answer, bounds_answer}
 
 -- "It refuses with 10 a plan of more than 6 months, of an opening above 6, or of an income other than 1."
 unfoldable pub too_large : Head → Bool

@@ -2,6 +2,7 @@
 use Rattle.std.specs.Prelude.{ℕ, ◌+◌, ◌||◌, cond, ltb, eqb}
 use Rattle.model.specs.Limits.{row_room, workspace_room, bounds_room}
 use Rattle.test_vectors.specs.declared.record.Record.{Record}
+use Rattle.test_vectors.specs.Records.{kind_number}
 
 -- numbers more than any call needs
 abbrev spare : ℕ
@@ -29,4 +30,4 @@ bounds_capacity = bounds_room + spare
 
 -- the length of the row in use after any record: another than a row's, of kind 0, leaves it
 unfoldable pub used_after : Record → ℕ → ℕ → ℕ
-used_after r room used = cond (eqb r.kind 0) (row_used r.length room) used
+used_after r room used = cond (eqb (kind_number r.kind) 0) (row_used r.length room) used

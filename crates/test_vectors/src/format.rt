@@ -14,9 +14,10 @@ pub fn write(record: Record, row: &[u32]) {
 }
 
 fn write_into(head: Head, row: &[u32], bytes: &mut [u8]) {
-    let answer = codec::write(head, row, bytes);
-    text::first(u64::from(answer.refusal));
-    text::next(answer.length as u64);
+    match codec::write(head, row, bytes) {
+        Ok(length) => text::answered(&[length as u64]),
+        Err(refusal) => text::refused(refusal, 1),
+    }
     text::bytes(bytes);
     text::end();
 }
@@ -41,13 +42,15 @@ fn read_from(record: Record, bytes: &mut [u8]) {
 }
 
 fn read_into(bytes: &[u8], row: &mut [u32]) {
-    let answer = codec::read(bytes, row);
-    let head = answer.head;
-    text::first(u64::from(answer.refusal));
-    text::next(head.months as u64);
-    text::next(head.opening as u64);
-    text::next(head.sizes as u64);
-    text::next(head.income as u64);
+    match codec::read(bytes, row) {
+        Ok(head) => text::answered(&[
+            head.months as u64,
+            head.opening as u64,
+            head.sizes as u64,
+            head.income as u64,
+        ]),
+        Err(refusal) => text::refused(refusal, 4),
+    }
     text::memory(row);
     text::end();
 }

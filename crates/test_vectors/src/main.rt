@@ -13,7 +13,7 @@ mod text;
 ghost use Rattle.std.specs.Prelude.{◌≡◌, ◌≤◌, length};
 ghost use Rattle.test_vectors.specs.Rooms.{used_after};
 
-use record::Record;
+use record::{Kind, Record};
 
 // The descriptors that every program is started with.
 const STDIN_FILENO: i32 = 0;
@@ -32,9 +32,6 @@ fn play(row: &mut [u32]) {
         let Some(next) = record::next() else {
             return;
         };
-        if next.kind > record::LAST {
-            return;
-        }
         used = step(next, row, used);
     }
 }
@@ -45,10 +42,11 @@ fn step(next: Record, row: &mut [u32], used: usize) -> usize
     ensures used { result ≡ used_after next (length row.old) used }
     ensures within { result ≤ length row.new }
 {
-    let kind = next.kind;
-    if kind == 0 {
-        return record::read_row(next.length, row);
+    match next.kind {
+        Kind::Row => record::read_row(next.length, row),
+        _ => {
+            calls::call(next, &row[..used]);
+            used
+        }
     }
-    calls::call(next, &row[..used]);
-    used
 }

@@ -23,8 +23,10 @@ fn bounds(fill: u32) -> [u32; space::BOUNDS]
 }
 
 fn call(head: Head, row: &[u32], workspace: &mut [u32], bounds: &mut [u32]) {
-    let refusal = all_openings(head, row, workspace, bounds);
-    text::first(u64::from(refusal));
+    match all_openings(head, row, workspace, bounds) {
+        Ok(()) => text::answered(&[]),
+        Err(refusal) => text::refused(refusal, 0),
+    }
     text::memory(bounds);
     text::memory(workspace);
     text::end();

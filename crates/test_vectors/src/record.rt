@@ -1,18 +1,68 @@
 // The records of the input: nine words, then a row or a plan's bytes where the kind asks for them.
 ghost use Rattle.std.specs.Prelude.{◌≡◌, ◌+◌, ◌*◌, ◌≤◌, length, replicate};
 ghost use Rattle.test_vectors.specs.Rooms.{row_capacity, byte_capacity, row_used};
-ghost use Rattle.test_vectors.specs.Records.{word_at, number_at, record_of, row_in};
+ghost use Rattle.test_vectors.specs.Records.{KindOf, Decoded, word_at, number_at, row_in};
 
 use crate::space;
 use model::Head;
 use numbers::big_endian;
 
-// The last kind.
-pub const LAST: u8 = 15;
+// What a record asks for: a row for the records after it, or a call.
+#[derive(Clone, Copy)]
+pub enum Kind {
+    Row = 0,
+    Survive = 1,
+    Both = 2,
+    High = 3,
+    Low = 4,
+    Count = 5,
+    Write = 6,
+    Read = 7,
+    Ruin = 8,
+    Claims = 9,
+    Least = 10,
+    Openings = 11,
+    PlainSurvive = 12,
+    PlainBoth = 13,
+    PlainHigh = 14,
+    PlainLow = 15,
+}
+
+// A number that no kind has.
+#[derive(Clone, Copy)]
+pub struct UnknownKind;
+
+impl TryFrom<u8> for Kind {
+    type Error = UnknownKind;
+
+    ghost try_from_gives = { KindOf };
+
+    fn try_from(number: u8) -> Result<Self, UnknownKind> {
+        match number {
+            0 => Ok(Kind::Row),
+            1 => Ok(Kind::Survive),
+            2 => Ok(Kind::Both),
+            3 => Ok(Kind::High),
+            4 => Ok(Kind::Low),
+            5 => Ok(Kind::Count),
+            6 => Ok(Kind::Write),
+            7 => Ok(Kind::Read),
+            8 => Ok(Kind::Ruin),
+            9 => Ok(Kind::Claims),
+            10 => Ok(Kind::Least),
+            11 => Ok(Kind::Openings),
+            12 => Ok(Kind::PlainSurvive),
+            13 => Ok(Kind::PlainBoth),
+            14 => Ok(Kind::PlainHigh),
+            15 => Ok(Kind::PlainLow),
+            _ => Err(UnknownKind),
+        }
+    }
+}
 
 #[derive(Clone, Copy)]
 pub struct Record {
-    pub kind: u8,
+    pub kind: Kind,
     pub head: Head,
     pub number: usize,
     pub target: u32,
@@ -22,20 +72,23 @@ pub struct Record {
     pub length: usize,
 }
 
-// The next record, none at the end of the input.
+// The next record, none at the end of the input or where it is of no kind.
 pub fn next() -> Option<Record> {
     let mut words = [0u8; 72];
     if io::read_full(crate::STDIN_FILENO, &mut words) < 72 {
         return None;
     }
-    Some(decode(&words))
+    decode(&words)
 }
 
-fn decode(words: &[u8; 72]) -> Record
-    ensures { result ≡ record_of words.now }
+fn decode(words: &[u8; 72]) -> Option<Record>
+    ensures { Decoded words.now result }
 {
-    Record {
-        kind: words[7],
+    let Ok(kind) = Kind::try_from(words[7]) else {
+        return None;
+    };
+    Some(Record {
+        kind,
         head: Head {
             months: word(words, 8),
             opening: word(words, 16),
@@ -48,7 +101,7 @@ fn decode(words: &[u8; 72]) -> Record
         fill: number(words, 60),
         fill_byte: words[63],
         length: word(words, 64),
-    }
+    })
 }
 
 fn word(bytes: &[u8], at: usize) -> usize

@@ -7,15 +7,14 @@ use crate::text;
 use claims::sizes::{first_within, list_sizes};
 use claims::sum::claim_sum;
 use model::Head;
-use plan::plan_refusal;
+use plan::check_plan;
 
 pub fn claims(head: Head, count: usize, row: &[u32]) {
-    let refusal = plan_refusal(head, row);
-    if refusal == 0 {
-        add(head, count, row);
-    } else {
-        line(refusal, 0, 0, 0);
+    match check_plan(head, row) {
+        Ok(()) => add(head, count, row),
+        Err(refusal) => text::refused(refusal, 3),
     }
+    text::end();
 }
 
 fn add(head: Head, count: usize, row: &[u32])
@@ -43,13 +42,5 @@ fn sum(severity: &[u32], sizes: &[usize], dense: usize, after: &[u32])
     let most = after.len().min(severity.len());
     let first = first_within(sizes, 0, most);
     let claims = claim_sum(severity, &sizes[first..], dense, after);
-    line(0, claims.quotient, claims.remainder, claims.products);
-}
-
-fn line(refusal: u32, quotient: u64, remainder: u64, products: usize) {
-    text::first(u64::from(refusal));
-    text::next(quotient);
-    text::next(remainder);
-    text::next(products as u64);
-    text::end();
+    text::answered(&[claims.quotient, claims.remainder, claims.products as u64]);
 }

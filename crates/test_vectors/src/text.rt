@@ -1,12 +1,25 @@
 // The parts of a line of the output, with one space between.
 use checksums::checksum;
+use model::Refusal;
 use model::limits::PLACES;
 
-pub fn first(x: u64) {
-    io::print_decimal(crate::STDOUT_FILENO, x);
+// What a call answered: 0 for no refusal, and the numbers.
+pub fn answered(numbers: &[u64]) {
+    io::print_decimal(crate::STDOUT_FILENO, 0);
+    for x in numbers {
+        next(*x);
+    }
 }
 
-pub fn next(x: u64) {
+// What a call refused: the refusal's number, and 0 for each number that it would have answered.
+pub fn refused(refusal: Refusal, numbers: usize) {
+    io::print_decimal(crate::STDOUT_FILENO, u64::from(refusal.number()));
+    for _ in 0..numbers {
+        next(0);
+    }
+}
+
+fn next(x: u64) {
     io::write_all(crate::STDOUT_FILENO, b" ");
     io::print_decimal(crate::STDOUT_FILENO, x);
 }

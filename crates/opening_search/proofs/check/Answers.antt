@@ -1,17 +1,38 @@
--- `check` meets its contract: what is asked is the target, in the workspace of survive.
-use mathlib.Core.Path.{refl, ap, ◌∙◌}
+-- `check` meets its contract: the plan's checks, that of the target and that of the workspace of survive, in turn.
+use mathlib.Core.Path.{refl, sym, ◌∙◌}
 use native.Mathlib.Omega.{arith}
 use Rattle.model.specs.Refusal.{outside, survival_workspace, bounds_refusal}
-use Rattle.opening_search.specs.Refusal.{target_checks}
+use Rattle.model.proofs.RefusalNumbers.{number_above_0, passed_on}
+use Rattle.model.proofs.Facts.{accepted_head}
+use Rattle.questions.proofs.RefusalLaws.{by_plan, by_asked, by_room}
+use Rattle.opening_search.specs.Refusal.{target_outside, target_checks}
 use Rattle.opening_search.proofs.check.Goals as goal
 
-pub bounds_refusal-requires : goal.bounds_refusal-requires
+pub returns-in_err-check_plan : goal.returns-in_err-check_plan
+unfolding bounds_refusal target_checks
+returns-in_err-check_plan c =
+    let a = c.args in
+    passed_on _ _ c.from_residual.ensures.1
+    ∙ by_plan a.head a.row.now 14 (target_outside a.target) (survival_workspace a.head) a.room (omega arith) _ c.in_err-check_plan.ensures (number_above_0 _)
+
+pub returns-in_err-check_target : goal.returns-in_err-check_target
+unfolding bounds_refusal target_checks
+returns-in_err-check_target c =
+    let a = c.args in
+    passed_on _ _ c.from_residual-in_err-check_target.ensures.1
+    ∙ by_asked a.head a.row.now 14 (target_outside a.target) (survival_workspace a.head) a.room (omega arith)
+    (sym c.in_ok-check_plan.ensures) _ c.in_err-check_target.ensures (number_above_0 _)
+
+pub check_room-requires-clause-head_accepted : goal.check_room-requires-clause-head_accepted
+check_room-requires-clause-head_accepted c = accepted_head _ _ (sym c.in_ok-check_plan.ensures)
+
+pub check_room-requires-clause-question_value : goal.check_room-requires-clause-question_value
 unfolding outside
-bounds_refusal-requires c = record { number_nonzero = omega arith; question_value = λ e. refl }
+check_room-requires-clause-question_value c = refl
 
 pub returns : goal.returns
 unfolding bounds_refusal target_checks
 returns c =
     let a = c.args in
-    c.bounds_refusal.ensures
-    ∙ ap (λ o. bounds_refusal a.head a.row.now (14, o) (survival_workspace a.head) a.room) c.target_is_outside.ensures
+    by_room a.head a.row.now 14 (target_outside a.target) (survival_workspace a.head) a.room (omega arith)
+    (sym c.in_ok-check_plan.ensures) _ c.in_ok-check_target.ensures c.check_room.ensures

@@ -1,6 +1,6 @@
 -- `listed_search` meets its contract: the lower row decides, and the upper row is worked for the opening found (`SearchLaws`).
 use Prim.Native.Nat.{ℕ, ◌+◌, ◌*◌, ◌<◌}
-use mathlib.Core.Path.{◌≡◌, sym, ◌∙◌}
+use mathlib.Core.Path.{◌≡◌, refl, sym, ◌∙◌}
 use mathlib.Core.List.{◌++◌}
 use Rattle.std.specs.Prelude.{None}
 use native.Mathlib.Omega.{arith}
@@ -10,6 +10,7 @@ use Rattle.model.specs.Levels.{largest_level}
 use Rattle.model.proofs.LevelLaws.{level_from}
 use Rattle.target_rows.specs.Rows.{found_of}
 use Rattle.target_rows.proofs.WalkLaws.{found_opening, found_lower}
+use Rattle.opening_search.specs.Answers.{refused}
 use Rattle.opening_search.proofs.SearchLaws.{none_found, one_found, zero_still, second_count, zero_again}
 use Rattle.opening_search.proofs.search.listed_search.Goals as goal
 use Rattle.opening_search.proofs.search.listed_search.Goals.{In-Some, Start}
@@ -44,11 +45,12 @@ least_lower-requires c =
     let size = length-take-le (c.args.opening + c.args.income * length c.args.chances.now + 1) c.fill.new.self (omega (arith, (halves (goal.at.least_lower-requires c).Start).whole, c.fill.auto.self)) in record { walk = record { terms = c.requires.plan_terms.0; listing = c.requires.plan_terms.1; earns = c.requires.income_nonzero.0; inside = omega (arith, (halves (goal.at.least_lower-requires c).Start).levels-inside, size) }; target_nonzero = c.requires.target_nonzero }
 
 pub returns-in_default : goal.returns-in_default
+unfolding refused
 returns-in_default c =
     let a = c.args in
     let none = found_of a.opening None in record {
       answered = none_found a.income a.severity.now a.opening a.chances.now a.target none.opening
-          (found_opening a.income a.severity.now a.opening a.chances.now a.target none c.in_default.ensures.found) (omega arith) c.refused.result c.refused.ensures;
+          (found_opening a.income a.severity.now a.opening a.chances.now a.target none c.in_default.ensures.found) (omega arith) _ refl;
       cleared = zero_still (length a.workspace.now) (c.args.opening + c.args.income * length c.args.chances.now + 1) (omega (arith, (halves (goal.at.returns-in_default c).Start).whole)) c.fill.new.self c.least_lower.new.row (c.fill.ensures.after (λ y e. e)) c.least_lower.ensures.cleared;
     }
 

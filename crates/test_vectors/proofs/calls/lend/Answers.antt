@@ -4,5 +4,5 @@ use lib.Seq.{length-take-le}
 use borrow.Author.Rules.{rules}
 use Rattle.test_vectors.proofs.calls.lend.Goals as goal
 
-pub slice_bounds-call_in-end : goal.slice_bounds-call_in-end
-slice_bounds-call_in-end c = sym (length-take-le _ _ (search rules))
+pub slice_bounds-call-end : goal.slice_bounds-call-end
+slice_bounds-call-end g c = sym (length-take-le _ _ (search rules))

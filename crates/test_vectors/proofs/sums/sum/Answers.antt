@@ -4,9 +4,6 @@ use native.Mathlib.Omega.{arith}
 use Rattle.claims.proofs.ListingLaws.{listed_from_start, listed_from_turn, listed_part}
 use Rattle.test_vectors.proofs.sums.sum.Goals as goal
 
-pub min-most-requires : goal.min-most-requires
-min-most-requires c = tt
-
 pub first_within-first-requires : goal.first_within-first-requires
 first_within-first-requires c = omega arith
 
@@ -33,9 +30,3 @@ claim_sum-claims-requires c =
     c.first_within-first.ensures.within c.first_within-first.ensures.inside
     (listed_from_start a.severity.now a.sizes.now a.dense most.result (omega (arith, most.ensures)) listing)).0
     most.ensures in record { parts = c.requires.plan_terms.chances_fit; severity_bound = c.requires.plan_terms.weights_fit; lists_range = range; no_gap = listing.no_gap }
-
-pub line-requires : goal.line-requires
-line-requires c = tt
-
-pub returns : goal.returns
-returns c = tt
