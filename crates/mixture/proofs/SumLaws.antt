@@ -10,9 +10,12 @@ use native.Mathlib.Nat.{add_assoc, zero-add, add-zero}
 use lib.ListN.{length, get_or, take, drop, length-drop, drop_of_length-le}
 use lib.Seq.{drop-cons, drop-drop, get_or-take, length-take-le}
 use borrow.Author.Tests.{not-false}
+use Rattle.std.specs.Prelude.{Result, Ok, Err, IsOk, IfOk}
 use Rattle.model.specs.declared.Head.{Head}
 use Rattle.model.specs.declared.Ask.{Ask}
 use Rattle.model.specs.declared.Question.{Question}
+use Rattle.model.specs.declared.Bounds.{Bounds}
+use Rattle.model.specs.declared.refusal.Refusal.{Refusal}
 use Rattle.model.specs.declared.Rounding.{Rounding}
 use Rattle.model.specs.declared.Rounding.TheVariants.{Down, Up}
 use Rattle.model.specs.Scale.{S}
@@ -22,12 +25,11 @@ use Rattle.model.specs.Bounds.{bound, lower, upper, EnclosesQuestion}
 use Rattle.model.specs.Memory.{zero_first}
 use Rattle.model.specs.Refusal.{first, Accepted, outside, workspace_needed, ask_refusal}
 use Rattle.model.proofs.Facts.{neither}
+use Rattle.model.proofs.RefusalNumbers.{not_accepted}
 use Rattle.model.proofs.MemoryLaws.{filled, zero_more}
 use Rattle.model.proofs.Theorems.{enclosure, bound_fits}
 use Rattle.questions.proofs.RefusalLaws.{not_refused}
-use Rattle.engine.specs.declared.Answer.{Answer}
-use Rattle.engine.specs.Answers.{bounds_answer, answer, workspace_after}
-use Rattle.engine.proofs.AnswerLaws.{number_is, bounds_are}
+use Rattle.engine.specs.Answers.{Answer, answer_result, bounds_answer, answer, workspace_after}
 use Rattle.mixture_plans.specs.declared.Mixture.{Mixture}
 use Rattle.mixture_plans.specs.Components.{Components, weights_of, alike}
 use Rattle.mixture_plans.specs.Rows.{HeadRow, plan_at, plan_rows, heads_used, weights_used, rows_of, weighed, components_of}
@@ -76,6 +78,15 @@ weights_from weights count enough i l =
     rw add-one
     (drop-cons (take count weights) i 0 (rw (length-take-le count weights enough) l)
     ∙ ap (λ (w : ℕ). w ∷ drop (suc i) (take count weights)) (get_or-take count weights i 0 l))
+
+-- an answer that is not a refusal, with these bounds
+abbrev pub Given : Result Bounds Refusal → ℕ → ℕ → Type 0
+Given r low high = IsOk r × IfOk r (λ b. (b.lower ≡ low) × (b.upper ≡ high))
+
+given_by : (r : Result Bounds Refusal) (low high : ℕ) → answer_result r ≡ bounds_answer 0 low high → Given r low high
+unfolding bounds_answer
+given_by (Ok b) low high e = (refl, (ap (λ (a : Answer). a.lower) e, ap (λ (a : Answer). a.upper) e))
+given_by (Err r) low high e = absurd (not_accepted r _ refl (ap (λ (a : Answer). a.refusal) e))
 
 abbrev no_head : Head
 no_head = record { months = 0; opening = 0; sizes = 0; income = 0 }
@@ -178,23 +189,18 @@ module _ (m : Mixture) (row : List ℕ) (f : MixtureFacts m row) where
 
       -- asking it is not refused, and gives its bounds and a workspace that is cleared as far as any plan needs it
       pub asked_next :
-          (q : Question) → outside q ≡ false → (n : ℕ) → n ≡ row_length h → (r : Answer) (now next : List ℕ) → workspace_needed (ask_of_one m q) ≤ length now →
-          r ≡ answer (record { head = h; question = q }) (take (start + n - start) (drop start row)) (length now) →
+          (q : Question) → outside q ≡ false → (n : ℕ) → n ≡ row_length h → (r : Result Bounds Refusal) (now next : List ℕ) → workspace_needed (ask_of_one m q) ≤ length now →
+          answer_result r ≡ answer (record { head = h; question = q }) (take (start + n - start) (drop start row)) (length now) →
           next ≡ workspace_after (record { head = h; question = q }) (take (start + n - start) (drop start row)) now →
-          (r.lower ≡ lower (plan_of h part) q) × ((r.upper ≡ upper (plan_of h part) q) × (next ≡ zero_first (workspace_needed (ask_of_one m q)) now))
+          Given r (lower (plan_of h part) q) (upper (plan_of h part) q) × (next ≡ zero_first (workspace_needed (ask_of_one m q)) now)
       unfolding answer
       asked_next q inside n en r now next fits er ews =
           let ask : Ask = record { head = h; question = q } in
           let count : start + n - start ≡ row_length h = omega (arith, en) in
           let here_fits : workspace_needed ask ≤ length now = omega (arith, next_needs q) in
-          let none : ask_refusal ask part (length now) ≡ 0 = not_refused {needed = workspace_needed ask} {room = length now} 10 (omega arith) (record { accepted = next_accepted; inside = inside; enough = here_fits }) in
-          let result : r ≡ bounds_answer 0 (lower (plan_of h part) q) (upper (plan_of h part) q) = rw (count, none) at er in
-          let bounds = bounds_are 0 (lower (plan_of h part) q) (upper (plan_of h part) q) (number_is 0 _ _) in (
-            ap (λ (a : Answer). a.lower) result ∙ bounds.0,
-            (
-              ap (λ (a : Answer). a.upper) result ∙ bounds.1,
-              (rw count at ews) ∙ filled (ask_refusal ask part (length now)) (workspace_needed ask) _ now none ∙ ap (λ (k : ℕ). zero_first k now) (next_needs q),
-            ),
+          let none : ask_refusal ask part (length now) ≡ 0 = not_refused {needed = workspace_needed ask} {room = length now} 10 (omega arith) (record { accepted = next_accepted; inside = inside; enough = here_fits }) in (
+            given_by r _ _ (rw (count, none) at er),
+            (rw count at ews) ∙ filled (ask_refusal ask part (length now)) (workspace_needed ask) _ now none ∙ ap (λ (k : ℕ). zero_first k now) (next_needs q),
           )
 
       left_next :

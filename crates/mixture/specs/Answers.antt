@@ -3,8 +3,7 @@ use Rattle.std.specs.Prelude.{ℕ, List, length}
 use Rattle.model.specs.declared.Question.{Question}
 use Rattle.model.specs.Memory.{cleared_after}
 use Rattle.model.specs.Refusal.{workspace_needed}
-use Rattle.engine.specs.declared.Answer.{Answer}
-use Rattle.engine.specs.Answers.{bounds_answer}
+use Rattle.engine.specs.Answers.{Answer, bounds_answer}
 use Rattle.mixture_plans.specs.declared.Mixture.{Mixture}
 use Rattle.mixture_plans.specs.Rows.{components_of}
 use Rattle.mixture_plans.specs.Refusal.{ask_of_one, mixture_ask_refusal}

@@ -19,7 +19,7 @@ use Rattle.plan_bits.proofs.RefusalLaws.{readable, row_is}
 use Rattle.mixture_plans.specs.declared.Mixture.{Mixture}
 use Rattle.mixture_plans.specs.Components.{mixture_check}
 use Rattle.mixture_plans.specs.Rows.{HeadRow, plan_rows, heads_used, rows_of, weighed, components_of}
-use Rattle.mixture_plans.specs.Refusal.{count_outside, each_checks, mixture_refusal, plans_head}
+use Rattle.mixture_plans.specs.Refusal.{count_outside, each_checks, mixture_refusal, MixtureAccepted, plans_head}
 use Rattle.mixture_plans.proofs.RowLaws.{each_next}
 use Rattle.mixture_plans.proofs.CheckLaws.{by_rows}
 use Rattle.mixture_bytes.specs.Format.{count_in, weights_in, plans_start, plan_parts, parts_in, head_row, components_in, head_in}
@@ -84,10 +84,10 @@ pub record Counted (bytes : List ℕ) : Type 0 where
   pub within : count_outside (count_in bytes) ≡ false
   pub enough : plans_start (count_in bytes) ≤ length bytes
 
-pub count_known : (bytes : List ℕ) (n : ℕ) → n ≡ count_refusal bytes → n ≡ 0 → Counted bytes
+pub count_known : (bytes : List ℕ) → count_refusal bytes ≡ 0 → Counted bytes
 unfolding count_checks count_outside
-count_known bytes n is none =
-    let first_ok = none_fits _ _ _ (sym is ∙ none) in
+count_known bytes none =
+    let first_ok = none_fits _ _ _ none in
     let count_ok = none_fits _ _ _ first_ok.1 in
     let in_range = neither (eqb (count_in bytes) 0) (ltb max_plans (count_in bytes)) count_ok.0 in
     record {
@@ -102,17 +102,16 @@ pub refused_early : (bytes : List ℕ) (n : ℕ) → n ≡ count_refusal bytes �
 refused_early bytes n is ne = sym (count_then bytes ∙ (rw (← is, ne_eqb n 0 ne)))
 
 past_count :
-    (bytes : List ℕ) (early : ℕ) → early ≡ count_refusal bytes → early ≡ 0 → bytes_refusal bytes ≡ first (map part_check (parts_in bytes) ++ mixture_check (components_in bytes) ∷ [])
-past_count bytes early is none = count_then bytes ∙ (rw (sym is ∙ none))
+    (bytes : List ℕ) → count_refusal bytes ≡ 0 → bytes_refusal bytes ≡ first (map part_check (parts_in bytes) ++ mixture_check (components_in bytes) ∷ [])
+past_count bytes none = count_then bytes ∙ rw none
 
-pub refused_part :
-    (bytes : List ℕ) (early : ℕ) → early ≡ count_refusal bytes → early ≡ 0 → (n : ℕ) → n ≡ parts_refusal (parts_in bytes) → (n ≡ 0 → ⊥) → n ≡ bytes_refusal bytes
-refused_part bytes early is none n en ne =
-    sym (past_count bytes early is none ∙ parts_first (parts_in bytes) (mixture_check (components_in bytes) ∷ []) (λ z. ne (en ∙ z)) ∙ sym en)
+refused_part : (bytes : List ℕ) → count_refusal bytes ≡ 0 → (n : ℕ) → n ≡ parts_refusal (parts_in bytes) → (n ≡ 0 → ⊥) → n ≡ bytes_refusal bytes
+refused_part bytes none n en ne =
+    sym (past_count bytes none ∙ parts_first (parts_in bytes) (mixture_check (components_in bytes) ∷ []) (λ z. ne (en ∙ z)) ∙ sym en)
 
 -- The mixture as it was read: its refusal is that of the bytes, and where there is none it holds what they say.
 module _
-    (bytes : List ℕ) (early : ℕ) (is : early ≡ count_refusal bytes) (none : early ≡ 0) (all_read : parts_refusal (parts_in bytes) ≡ 0)
+    (bytes : List ℕ) (none : count_refusal bytes ≡ 0) (all_read : parts_refusal (parts_in bytes) ≡ 0)
     (heads : List Head) (used : ℕ) (plans : PlansRead (parts_in bytes) heads used) (blank row : List ℕ) (room : length blank ≡ rows_room)
     (left : row ≡ rows_after (parts_in bytes) 0 blank) (weights : List ℕ) (weighing : take (count_in bytes) weights ≡ weights_in (count_in bytes) (drop 1 bytes))
     (weights_long : length weights ≡ max_plans)
@@ -121,7 +120,7 @@ module _
     m = record { count = count_in bytes; heads = heads; weights = weights }
 
     known : Counted bytes
-    known = count_known bytes early is none
+    known = count_known bytes none
 
     many : length (parts_in bytes) ≡ count_in bytes
     many = parts_many (count_in bytes) (drop (plans_start (count_in bytes)) bytes)
@@ -144,12 +143,12 @@ module _
     unfolding components_of components_in
     components_are = ap₂ weighed weighing plans_are
 
-    number_is : mixture_refusal m (take used row) ≡ bytes_refusal bytes
+    pub number_is : mixture_refusal m (take used row) ≡ bytes_refusal bytes
     number_is =
         let last : ℕ = first (mixture_check (components_in bytes) ∷ []) in
         let ours : mixture_refusal m (take used row) ≡ last = by_rows m (take used row) known.within ∙ (rw (plans_are, each_read (parts_in bytes) all_read, components_are)) in
         let theirs : bytes_refusal bytes ≡ last =
-        past_count bytes early is none ∙ parts_then (parts_in bytes) (mixture_check (components_in bytes) ∷ []) ∙ (rw all_read) in
+        past_count bytes none ∙ parts_then (parts_in bytes) (mixture_check (components_in bytes) ∷ []) ∙ (rw all_read) in
         ours ∙ sym theirs
 
     head_is : plans_head m ≡ head_in bytes
@@ -162,20 +161,16 @@ module _
             sym (get_or-take (suc n) heads 0 (record { months = 0; opening = 0; sizes = 0; income = 0 }) (omega arith))
             ∙ ap (λ (hs : List Head). get_or hs 0 (record { months = 0; opening = 0; sizes = 0; income = 0 })) h
 
-    pub mixture_read :
-        length row ≡ length blank → (n : ℕ) → n ≡ mixture_refusal m (take used row) → (n ≡ bytes_refusal bytes) × (n ≡ 0 → MixtureRead bytes m used row)
-    mixture_read same n en = (
-      en ∙ number_is,
-      λ z.
-          record {
-            within = omega (arith, used_fits, same, room);
-            heads_long = plans.heads_long;
-            weights_long = weights_long;
-            accepted = sym en ∙ z;
-            components = components_are;
-            head = head_is;
-          },
-    )
+    pub mixture_read : length row ≡ length blank → MixtureAccepted m (take used row) → MixtureRead bytes m used row
+    mixture_read same accepted =
+        record {
+          within = omega (arith, used_fits, same, room);
+          heads_long = plans.heads_long;
+          weights_long = weights_long;
+          accepted = accepted;
+          components = components_are;
+          head = head_is;
+        }
 
     pub used_inside : length row ≡ length blank → used ≤ length row
     used_inside same = omega (arith, used_fits, same, room)
@@ -192,15 +187,15 @@ weights_lent bytes count e =
 
 -- the same of what the functions answer
 module _
-    (bytes : List ℕ) (early : ℕ) (is : early ≡ count_refusal bytes) (none : early ≡ 0) (count : ℕ) (counted : count ≡ count_in bytes) (of_plans : ℕ)
+    (bytes : List ℕ) (none : count_refusal bytes ≡ 0) (count : ℕ) (counted : count ≡ count_in bytes) (of_plans : ℕ)
     (number : of_plans ≡ parts_refusal (plan_parts count (take (length bytes - (1 + 4 * count)) (drop (1 + 4 * count) bytes))))
   where
     pub refused_plan : (of_plans ≡ 0 → ⊥) → of_plans ≡ bytes_refusal bytes
-    refused_plan ne = refused_part bytes early is none of_plans (number ∙ ap parts_refusal (parts_lent bytes count counted)) ne
+    refused_plan ne = refused_part bytes none of_plans (number ∙ ap parts_refusal (parts_lent bytes count counted)) ne
 
     module _
         (unrefused : of_plans ≡ 0) (heads : List Head) (used : ℕ)
-        (plans : of_plans ≡ 0 → PlansRead (plan_parts count (take (length bytes - (1 + 4 * count)) (drop (1 + 4 * count) bytes))) heads used)
+        (plans : PlansRead (plan_parts count (take (length bytes - (1 + 4 * count)) (drop (1 + 4 * count) bytes))) heads used)
         (blank row : List ℕ) (room : rows_room ≡ length blank)
         (left : row ≡ rows_after (plan_parts count (take (length bytes - (1 + 4 * count)) (drop (1 + 4 * count) bytes))) 0 blank) (same : length row ≡ length blank)
         (weights : List ℕ) (weighing : take count weights ≡ weights_in count (take (length bytes - 1) (drop 1 bytes))) (weights_long : length weights ≡ max_plans)
@@ -209,7 +204,7 @@ module _
         all_read = ap parts_refusal (sym (parts_lent bytes count counted)) ∙ sym number ∙ unrefused
 
         plans_as : PlansRead (parts_in bytes) heads used
-        plans_as = rw (parts_lent bytes count counted) at (plans unrefused)
+        plans_as = rw (parts_lent bytes count counted) at plans
 
         left_as : row ≡ rows_after (parts_in bytes) 0 blank
         left_as = left ∙ ap (λ ps. rows_after ps 0 blank) (parts_lent bytes count counted)
@@ -218,9 +213,13 @@ module _
         weights_as = ap (λ (n : ℕ). take n weights) (sym counted) ∙ weighing ∙ weights_lent bytes count counted
 
         pub lent_inside : used ≤ length row
-        lent_inside = used_inside bytes early is none all_read heads used plans_as blank row (sym room) left_as weights weights_as weights_long same
+        lent_inside = used_inside bytes none all_read heads used plans_as blank row (sym room) left_as weights weights_as weights_long same
+
+        pub number_as : (n : ℕ) → n ≡ mixture_refusal (record { count = count; heads = heads; weights = weights }) (take used row) → n ≡ bytes_refusal bytes
+        number_as n en = rw counted at en ∙ number_is bytes none all_read heads used plans_as blank row (sym room) left_as weights weights_as weights_long
 
         pub read_as :
-            (n : ℕ) → n ≡ mixture_refusal (record { count = count; heads = heads; weights = weights }) (take used row) →
-            (n ≡ bytes_refusal bytes) × (n ≡ 0 → MixtureRead bytes (record { count = count; heads = heads; weights = weights }) used row)
-        read_as n en = rw counted (mixture_read bytes early is none all_read heads used plans_as blank row (sym room) left_as weights weights_as weights_long same n (rw counted at en))
+            MixtureAccepted (record { count = count; heads = heads; weights = weights }) (take used row) →
+            MixtureRead bytes (record { count = count; heads = heads; weights = weights }) used row
+        read_as accepted =
+            rw counted (mixture_read bytes none all_read heads used plans_as blank row (sym room) left_as weights weights_as weights_long same (rw counted at accepted))

@@ -18,8 +18,7 @@ use Rattle.model.proofs.Facts.{numbered, first_append}
 use Rattle.model.proofs.SumLaws.{below_or_not}
 use Rattle.model.proofs.MemoryLaws.{kept}
 use Rattle.plan_bits.proofs.RefusalLaws.{readable, read_short, read_head}
-use Rattle.codec.specs.declared.ReadAnswer.{ReadAnswer}
-use Rattle.codec.specs.Answers.{read_answer, row_after}
+use Rattle.codec.specs.Answers.{ReadAnswer, read_answer, row_after}
 use Rattle.codec.proofs.Answered.{head_number, head_answered}
 use Rattle.codec.proofs.LongInput.{same_head}
 use Rattle.mixture_plans.specs.Components.{mixture_check}

@@ -58,7 +58,7 @@ impl<'a> Asked for MixtureAsked<'a> {
         question: Question,
         workspace: &mut [u32],
     ) -> usize {
-        let bounds = ask(self.mixture, question, self.row, workspace);
+        let bounds = ask(self.mixture, question, self.row, workspace).unwrap();
         let (lower, upper) = (u64::from(bounds.lower), u64::from(bounds.upper));
         put_bounds(text, at, question, lower, upper)
     }

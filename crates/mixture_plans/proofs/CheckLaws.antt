@@ -157,12 +157,16 @@ module _ (m : Mixture) (q : Question) (row : List ℕ) (room : ℕ) where
   pub ask_refused : (n : ℕ) → n ≡ mixture_refusal m row → (n ≡ 0 → ⊥) → n ≡ mixture_ask_refusal m q row room
   ask_refused n e ne = sym (ask_checks ∙ (rw (← e, ne_eqb n 0 ne)))
 
-  module _ (n : ℕ) (en : n ≡ mixture_refusal m row) (none : n ≡ 0) where
-    pub ask_outside : outside q ≡ true → 10 ≡ mixture_ask_refusal m q row room
-    ask_outside e = sym (ask_checks ∙ (rw (sym en ∙ none, e)))
+  module _ (accepted : MixtureAccepted m row) where
+    pub ask_outside : (n : ℕ) → n ≡ cond (outside q) 10 0 → (n ≡ 0 → ⊥) → n ≡ mixture_ask_refusal m q row room
+    ask_outside n e ne = go (outside q) refl
+      where
+        go : (o : Bool) → outside q ≡ o → n ≡ mixture_ask_refusal m q row room
+        go true o = rw o at e ∙ sym (ask_checks ∙ (rw (accepted, o)))
+        go false o = absurd (ne (rw o at e))
 
     pub ask_room : outside q ≡ false → cond (ltb room (workspace_needed (ask_of_one m q))) 11 0 ≡ mixture_ask_refusal m q row room
-    ask_room e = sym (ask_checks ∙ (rw (sym en ∙ none, e)))
+    ask_room e = sym (ask_checks ∙ (rw (accepted, e)))
 
   -- what is known of an ask that is not refused
   pub ask_passes : mixture_ask_refusal m q row room ≡ 0 → MixtureAccepted m row × ((outside q ≡ false) × (workspace_needed (ask_of_one m q) ≤ room))

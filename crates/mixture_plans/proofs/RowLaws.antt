@@ -119,9 +119,9 @@ module _ (heads : List Head) (row : List ℕ) (count : ℕ) (enough : count ≤ 
         checking_refused n e ne = sym (decides ∙ (rw (← e, ne_eqb n 0 ne)))
 
         -- … or it is not, and the others decide
-        pub checking_more : (n : ℕ) → n ≡ plan_refusal h (take (end - start) (drop start row)) → n ≡ 0 → Checking heads row count (i + 1) end
-        checking_more n e none =
-            record { turns = omega arith; inside = end_inside.1; whole = sym (decides ∙ (rw (sym e ∙ none))) }
+        pub checking_more : Accepted h (take (end - start) (drop start row)) → Checking heads row count (i + 1) end
+        checking_more accepted =
+            record { turns = omega arith; inside = end_inside.1; whole = sym (decides ∙ rw accepted) }
 
       -- its head is
       pub checking_head : (n : ℕ) → n ≡ first (head_checks h) → (n ≡ 0 → ⊥) → n ≡ first (each_checks (plan_rows (take count heads) row))

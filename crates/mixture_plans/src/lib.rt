@@ -5,15 +5,15 @@ ghost use Rattle.std.specs.Prelude.{◌≡◌, true, cond, ◌+◌, ◌-◌, ◌
 ghost use Rattle.model.specs.Scale.{S};
 ghost use Rattle.model.specs.Sums.{total};
 ghost use Rattle.model.specs.Plan.{row_length};
-ghost use Rattle.model.specs.Refusal.{HeadAccepted, first};
+ghost use Rattle.model.specs.Refusal.{HeadAccepted, first, refused_with};
 ghost use Rattle.mixture_plans.specs.Components.{unlike};
 ghost use Rattle.mixture_plans.specs.Rows.{weights_used, rows_of, plans_in};
 ghost use Rattle.mixture_plans.specs.Refusal.{Counted, count_outside, each_checks, mixture_refusal, mixture_ask_refusal};
 
-use model::{Ask, Head, Question, WIDE_SCALE, limits};
+use model::{Ask, Head, Question, Refusal, WIDE_SCALE, limits};
 use plan::lengths::row_length;
-use plan::{head_refusal, plan_refusal, sum_of};
-use questions::needs::{is_outside, workspace_needed};
+use plan::{check_head, check_plan, sum_of};
+use questions::refusals::{check_question, check_room};
 
 // A mixture, document 02's mix: so many plans, with a head and a weight for each; heads and weights past the count are not looked at. The plans' rows
 // are lent beside it, end to end.
@@ -25,40 +25,36 @@ pub struct Mixture {
 }
 
 // The first refusal that fits a mixture and a question, with a workspace of the given length.
-pub fn ask_refusal(mixture: Mixture, question: Question, row: &[u32], room: usize) -> u32
-    ensures { result ≡ mixture_ask_refusal mixture question row.now room }
+pub fn check_ask(
+    mixture: Mixture,
+    question: Question,
+    row: &[u32],
+    room: usize,
+) -> Result<(), Refusal>
+    ensures { refused_with result ≡ mixture_ask_refusal mixture question row.now room }
 {
-    let refused = mixture_refusal(mixture, row);
-    if refused != 0 {
-        return refused;
-    }
-    if is_outside(question) {
-        return 10;
-    }
+    check_mixture(mixture, row)?;
+    check_question(question)?;
     let heads = mixture.heads;
     let head = heads[0];
-    if room < workspace_needed(Ask { head, question }) {
-        11
-    } else {
-        0
-    }
+    check_room(Ask { head, question }, room)
 }
 
 // The first refusal that fits a mixture, whatever is asked of it.
-pub fn mixture_refusal(mixture: Mixture, row: &[u32]) -> u32
-    ensures { result ≡ mixture_refusal mixture row.now }
+pub fn check_mixture(mixture: Mixture, row: &[u32]) -> Result<(), Refusal>
+    ensures { refused_with result ≡ mixture_refusal mixture row.now }
 {
     if count_is_outside(mixture.count) {
-        return 18;
+        return Err(Refusal::Mixture);
     }
-    let of_plans = each_refusal(mixture, row);
-    if of_plans != 0 {
-        return of_plans;
-    }
+    check_each(mixture, row)?;
     if is_unlike(mixture, row) {
-        return 18;
+        return Err(Refusal::Mixture);
     }
-    if weights_add(mixture) { 0 } else { 18 }
+    if !weights_add(mixture) {
+        return Err(Refusal::Mixture);
+    }
+    Ok(())
 }
 
 pub fn count_is_outside(count: usize) -> bool
@@ -68,27 +64,21 @@ pub fn count_is_outside(count: usize) -> bool
 }
 
 // The earliest refused plan's own number.
-fn each_refusal(mixture: Mixture, row: &[u32]) -> u32
+fn check_each(mixture: Mixture, row: &[u32]) -> Result<(), Refusal>
     requires { Counted mixture }
-    ensures { result ≡ first (each_checks (rows_of mixture row.now)) }
+    ensures { refused_with result ≡ first (each_checks (rows_of mixture row.now)) }
 {
     let heads = mixture.heads;
     let count = mixture.count;
     let mut start = 0;
     for i in 0..count {
         let head = heads[i];
-        let of_head = head_refusal(head);
-        if of_head != 0 {
-            return of_head;
-        }
+        check_head(head)?;
         let end = row_end(head, start, row.len(), i + 1 == count);
-        let of_plan = plan_refusal(head, &row[start..end]);
-        if of_plan != 0 {
-            return of_plan;
-        }
+        check_plan(head, &row[start..end])?;
         start = end;
     }
-    0
+    Ok(())
 }
 
 // Where the row of a plan ends that begins at `start` in a row of the given length: the last plan's is all that is left.

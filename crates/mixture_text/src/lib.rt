@@ -35,14 +35,10 @@ fn put_report(text: &mut [u8], bytes: &[u8], workspace: &mut [u32]) -> usize
     ensures written { Appended text.old 0 (mixture_report_of bytes.now) text.new result }
     ensures cleared { Cleared (report_needs bytes.now) workspace.old workspace.new }
 {
-    let read = read_mixture(bytes);
-    let refusal = read.refusal;
-    if refusal != 0 {
-        return put_refused(text, 0, refusal);
+    match read_mixture(bytes) {
+        Ok(read) => put_accepted(text, read.mixture, &read.row, read.used, workspace),
+        Err(refusal) => put_refused(text, 0, refusal),
     }
-    let mixture = read.mixture;
-    let row = read.row;
-    put_accepted(text, mixture, &row, read.used, workspace)
 }
 
 // The report of an accepted mixture, whose plans' rows are the first part of the lent one.

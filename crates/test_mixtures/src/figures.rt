@@ -3,18 +3,25 @@ ghost use Rattle.std.specs.Prelude.{◌≡◌};
 ghost use Rattle.test_mixtures.specs.Rounded.{ten_millionths};
 
 use crate::STDOUT_FILENO;
-use engine::Answer;
-use model::WIDE_SCALE;
+use model::{Bounds, Refusal, WIDE_SCALE};
 
 // One in ten-millionths, and the first of its 7 places.
 const ONE: u64 = 10000000;
 
 const TENTH: u64 = ONE / 10;
 
-pub fn line(answer: Answer) {
-    print(rounded(answer.lower));
+// Of a refusal both are 0.
+pub fn line(answer: Result<Bounds, Refusal>) {
+    match answer {
+        Ok(bounds) => figures(bounds.lower, bounds.upper),
+        Err(_) => figures(0, 0),
+    }
+}
+
+fn figures(lower: u32, upper: u32) {
+    print(rounded(lower));
     io::write_all(STDOUT_FILENO, b" ");
-    print(rounded(answer.upper));
+    print(rounded(upper));
     io::write_all(STDOUT_FILENO, b"\n");
 }
 
