@@ -1,18 +1,27 @@
 -- A number that is read digit by digit. Assumes nothing.
 use Prim.Native.Nat.{ℕ, ◌+◌, ◌≤◌, ◌<◌, min}
 use mathlib.Core.Path.{◌≡◌, refl, sym, ap, ◌∙◌}
-use mathlib.Core.Bool.{Bool, true, false, not}
+use mathlib.Core.Bool.{Bool, true, false, not, ◌||◌}
 use mathlib.Core.List.{List, [], ◌∷◌, ◌++◌, foldl-append}
 use native.Mathlib.Omega.{arith}
 use native.Mathlib.Numerals.{add-one}
 use borrow.Author.Tests.{eq-eqb, ne_eqb}
-use lib.ListN.{length, get_or, take, drop}
-use lib.Seq.{take-suc, take_all}
+use lib.ListN.{length, get_or, take, drop, drop_of_length-le}
+use lib.Seq.{take-suc, take_all, drop-cons}
 use Rattle.std.specs.Char.{is_ascii_digit}
 use Rattle.std.proofs.lemmas.Bool.Decides.{nat_tests}
 use Rattle.model.specs.Sums.{any}
-use Rattle.plan.proofs.Rows.{any_next, any_end}
 use Rattle.arguments.specs.Numbers.{Number, not_digit, is_number, with_digit, spelled, most_number, number_of}
+
+-- a test over the numbers from an index on, one at a time
+module _ (xs : List ℕ) (i : ℕ) (test : ℕ → Bool) where
+  any_next : i < length xs → any test (drop i xs) ≡ test (get_or xs i 0) || any test (drop (i + 1) xs)
+  unfolding any
+  any_next h = rw (add-one, drop-cons xs i 0)
+
+  any_end : length xs ≤ i → any test (drop i xs) ≡ false
+  unfolding any
+  any_end h = rw (drop_of_length-le xs h)
 
 -- one more digit at the end
 pub spelled_more : (bs : List ℕ) (b : ℕ) → spelled (bs ++ b ∷ []) ≡ with_digit (spelled bs) b

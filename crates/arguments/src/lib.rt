@@ -57,6 +57,7 @@ pub fn question_of(count: usize, word: &[u8], number: &[u8]) -> Option<Question>
     match count {
         0 => Some(Question::Survive),
         1 if word == b"survive".as_slice() => Some(Question::Survive),
+        // std has no From that makes a u32 a usize.
         2 => numbered(word, number_of(number)? as usize),
         _ => None,
     }

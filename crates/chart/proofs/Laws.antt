@@ -1,6 +1,6 @@
 -- Laws of the chart: what it is for an accepted plan and for a refusal, its lines from the pairs in memory, and inputs longer than every plan.
 use Prim.Native.Nat.{ℕ, ◌+◌, ◌≤◌}
-use mathlib.Core.Path.{◌≡◌}
+use mathlib.Core.Path.{◌≡◌, refl}
 use mathlib.Core.List.{List, [], ◌∷◌}
 use native.Mathlib.Omega.{arith}
 use borrow.Author.Tests.{ne_eqb}
@@ -8,7 +8,10 @@ use lib.ListN.{length, take}
 use Rattle.model.specs.declared.Head.{Head}
 use Rattle.model.specs.Limits.{row_room}
 use Rattle.model.specs.Format.{head_of, row_of}
-use Rattle.model.specs.Refusal.{read_refusal}
+use Rattle.std.specs.Prelude.{Result, Ok, Err, IsOk}
+use Rattle.model.specs.declared.refusal.Refusal.{Refusal}
+use Rattle.model.specs.Refusal.{refused_with, read_refusal}
+use Rattle.model.proofs.RefusalNumbers.{not_accepted}
 use Rattle.codec.specs.Input.{input_room}
 use Rattle.codec.proofs.LongInput.{reads_enough as LongInput·reads-enough}
 use Rattle.survival.specs.Openings.{openings_refusal, bounds_after}
@@ -17,6 +20,11 @@ use Rattle.text.specs.Text.{ascii, joined}
 use Rattle.text.proofs.TextLaws.{line_at_most, joined_same}
 use Rattle.report_lines.specs.Lines.{opening_line, refused_line, line_room}
 use Rattle.chart.specs.Chart.{chart_lines, chart_of, pair_line}
+
+-- a call whose number is 0 does not fail
+pub unrefused_ok : {A : Type 0} (r : Result A Refusal) → refused_with r ≡ 0 → IsOk r
+unrefused_ok (Ok x) none = refl
+unrefused_ok (Err e) none = absurd (not_accepted e 0 none refl)
 
 module _ (bytes : List ℕ) where
   pub chart_accepted : read_refusal bytes row_room ≡ 0 → chart_of bytes ≡ chart_lines (head_of bytes) (row_of bytes)

@@ -32,13 +32,10 @@ fn put_chart(text: &mut [u8], bytes: &[u8]) -> usize
     requires { text_room ≤ length text.old }
     ensures { Appended text.old 0 (chart_of bytes.now) text.new result }
 {
-    let plan = codec::read_plan(bytes);
-    let refusal = plan.refusal;
-    if refusal != 0 {
-        return put_refused(text, 0, refusal);
+    match codec::read_plan(bytes) {
+        Ok(plan) => put_plan(text, plan.head, &plan.row),
+        Err(refusal) => put_refused(text, 0, refusal),
     }
-    let row = plan.row;
-    put_plan(text, plan.head, &row)
 }
 
 // The lines of an accepted plan, whose row is the first part of the lent one.
@@ -50,7 +47,7 @@ fn put_plan(text: &mut [u8], head: Head, row: &[u32]) -> usize
     let used = row_length(head);
     let mut workspace = blank_survival_workspace();
     let mut bounds = blank_bounds();
-    all_openings(head, &row[..used], &mut workspace, &mut bounds);
+    all_openings(head, &row[..used], &mut workspace, &mut bounds).unwrap();
     put_lines(text, &bounds, head.opening)
 }
 

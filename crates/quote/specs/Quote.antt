@@ -3,8 +3,7 @@ use Rattle.std.specs.Prelude.{ℕ, cond, List, eqb}
 use Rattle.model.specs.Limits.{row_room, survival_room}
 use Rattle.model.specs.Format.{head_of, row_of}
 use Rattle.model.specs.Refusal.{read_refusal}
-use Rattle.opening_search.specs.declared.LeastAnswer.{LeastAnswer}
-use Rattle.opening_search.specs.Answers.{least_answer}
+use Rattle.opening_search.specs.Answers.{LeastAnswer, least_answer}
 use Rattle.report_lines.specs.Lines.{opening_line, refused_line}
 
 -- "The answer shows the opening and its bounds"; where there is none, the refusal's number

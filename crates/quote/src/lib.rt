@@ -2,16 +2,13 @@
 #![tactic(auto)]
 
 ghost use Rattle.std.specs.Prelude.{◌≡◌, ◌≤◌, ◌++◌, length, take, drop};
-ghost use Rattle.model.specs.Limits.{survival_room};
-ghost use Rattle.model.specs.Plan.{row_length};
-ghost use Rattle.model.specs.Refusal.{Accepted};
-ghost use Rattle.opening_search.specs.Answers.{least_answer};
+ghost use Rattle.opening_search.specs.Answers.{least_result};
 ghost use Rattle.text.specs.Text.{Appended};
-ghost use Rattle.report_lines.specs.Lines.{line_room};
+ghost use Rattle.report_lines.specs.Lines.{line_room, opening_line};
 ghost use Rattle.quote.specs.Quote.{answer_line, quote_of};
 
-use model::Head;
-use opening_search::LeastAnswer;
+use model::Refusal;
+use opening_search::LeastOpening;
 use plan::lengths::row_length;
 use report_lines::lines::{put_numbered, put_refused};
 use rooms::blank_survival_workspace;
@@ -34,34 +31,28 @@ fn put_quote(text: &mut [u8], bytes: &[u8], target: u32) -> usize
     requires { line_room ≤ length text.old }
     ensures { Appended text.old 0 (quote_of bytes.now target) text.new result }
 {
-    let plan = codec::read_plan(bytes);
-    let refusal = plan.refusal;
-    if refusal != 0 {
-        return put_refused(text, 0, refusal);
+    match least_for(bytes, target) {
+        Ok(least) => put_least(text, least),
+        Err(refusal) => put_refused(text, 0, refusal),
     }
-    let row = plan.row;
-    put_answer(text, least_of(plan.head, &row, target))
 }
 
-// The answer for an accepted plan, whose row is the first part of the lent one.
-fn least_of(head: Head, row: &[u32], target: u32) -> LeastAnswer
-    requires { Accepted head (take (row_length head) row.now) }
-    ensures { result ≡ least_answer head (take (row_length head) row.now) target survival_room }
+// The least opening for a plan's bytes and a target, in the workspace of survive.
+fn least_for(bytes: &[u8], target: u32) -> Result<LeastOpening, Refusal>
+    ensures { quote_of bytes.now target ≡ answer_line (least_result result) }
 {
-    let used = row_length(head);
+    let plan = codec::read_plan(bytes)?;
+    let row: &[u32] = &plan.row;
+    let used = row_length(plan.head);
     let mut workspace = blank_survival_workspace();
-    opening_search::least(head, &row[..used], target, &mut workspace)
+    opening_search::least(plan.head, &row[..used], target, &mut workspace)
 }
 
-fn put_answer(text: &mut [u8], answer: LeastAnswer) -> usize
+fn put_least(text: &mut [u8], least: LeastOpening) -> usize
     requires { line_room ≤ length text.old }
-    ensures { Appended text.old 0 (answer_line answer) text.new result }
+    ensures { Appended text.old 0 (opening_line least.opening least.bounds.lower least.bounds.upper) text.new result }
 {
-    let refusal = answer.refusal;
-    let lower = u64::from(answer.lower);
-    let upper = u64::from(answer.upper);
-    if refusal != 0 {
-        return put_refused(text, 0, refusal);
-    }
-    put_numbered(text, 0, b"opening", answer.opening, lower, upper)
+    let lower = u64::from(least.bounds.lower);
+    let upper = u64::from(least.bounds.upper);
+    put_numbered(text, 0, b"opening", least.opening, lower, upper)
 }

@@ -1,6 +1,6 @@
 -- Laws of asking on an accepted plan: what the engine answers, and what any number of questions leave of the workspace. Assumes nothing.
 use Prim.Native.Nat.{ℕ, ◌+◌, max, ◌≤◌}
-use mathlib.Core.Path.{◌≡◌, refl, ap, ◌∙◌}
+use mathlib.Core.Path.{◌≡◌, refl, sym, ap, ◌∙◌}
 use mathlib.Core.Bool.{Bool, false}
 use mathlib.Core.List.{List}
 use native.Mathlib.Numerals.{add-one}
@@ -18,7 +18,11 @@ use Rattle.model.specs.Refusal.{outside, month_outside, workspace_needed, surviv
 use Rattle.model.proofs.Facts.{accepted_head}
 use Rattle.model.proofs.Rooms.{workspace_fits}
 use Rattle.model.proofs.MemoryLaws.{filled, zero_more}
-use Rattle.engine.specs.Answers.{bounds_answer, answer, workspace_after, ruin_answer, ruin_workspace_after}
+use Rattle.model.proofs.RefusalNumbers.{not_accepted}
+use Rattle.model.specs.declared.Bounds.{Bounds}
+use Rattle.model.specs.declared.refusal.Refusal.{Refusal}
+use Rattle.std.specs.Prelude.{Result, Ok, Err, IsOk}
+use Rattle.engine.specs.Answers.{Answer, answer_result, bounds_answer, answer, workspace_after, ruin_answer, ruin_workspace_after}
 use Rattle.model.specs.Memory.{zero_first, cleared_after}
 use Rattle.questions.proofs.RefusalLaws.{not_refused}
 use Rattle.report_lines.specs.Asking.{Answerable, question_needs, workspace_left, largest_of, Cleared}
@@ -67,6 +71,14 @@ module _ {h : Head} {row ws : List ℕ} (a : Answerable h row ws) (o : Bool) (wi
 
   leaves : cleared_after (bounds_refusal h row (10, o) needed (length ws)) needed ws ≡ zero_first needed ws
   leaves = filled _ needed _ ws nothing_refuses
+
+-- a call whose number is 0 has the bounds of the answer
+pub is_answered : (r : Result Bounds Refusal) {a : Answer} → answer_result r ≡ a → a.refusal ≡ 0 → IsOk r
+is_answered (Ok b) is none = refl
+is_answered (Err e) is none = absurd (not_accepted e _ (ap (λ (a : Answer). a.refusal) is) none)
+
+pub answered_bounds : {r : Result Bounds Refusal} {b : Bounds} {low high : ℕ} → r ≡ Ok b → answer_result r ≡ record { refusal = 0; lower = low; upper = high } → b ≡ record { lower = low; upper = high }
+answered_bounds ok is = ap (λ (a : Answer). record { lower = a.lower; upper = a.upper }) (ap answer_result (sym ok) ∙ is)
 
 -- one question
 module _ {h : Head} {row ws : List ℕ} (a : Answerable h row ws) (q : Question) (within : outside q ≡ false) where

@@ -1,5 +1,6 @@
 -- Laws of the report's lines: none is longer than the room for one. Assumes nothing.
 use Prim.Native.Nat.{ℕ, ◌+◌, ◌≤◌}
+use mathlib.Core.Path.{◌≡◌, refl, sym, ap, ◌∙◌}
 use mathlib.Core.List.{List, [], ◌∷◌}
 use native.Mathlib.Omega.{arith}
 use lib.ListN.{length, length-append}
@@ -10,7 +11,11 @@ use Rattle.model.specs.Limits.{places}
 use Rattle.model.specs.Plan.{Plan, plan_of}
 use Rattle.model.specs.Refusal.{Accepted}
 use Rattle.model.proofs.Counts.{length_tabulate, get_d_tabulate}
-use Rattle.count_row.specs.Answers.{count_answer, count_rows}
+use Rattle.std.specs.Prelude.{Result, Ok, Err, IsOk}
+use Rattle.model.specs.declared.refusal.Refusal.{Refusal}
+use Rattle.model.proofs.RefusalNumbers.{not_accepted}
+use Rattle.count_row.specs.declared.CountRow.{CountRow}
+use Rattle.count_row.specs.Answers.{CountAnswer, count_result, count_refused, count_answer, count_rows}
 use Rattle.text.specs.Text.{ascii, Appended}
 use Rattle.text.proofs.TextLaws.{entry_at_most, line_at_most}
 use Rattle.report_lines.specs.Lines.{head_line, head_room, word_of, bounds_line, question_line, line_room, CountsOf}
@@ -39,9 +44,9 @@ head_ends h e =
     )
 
 -- What counting answers on an accepted plan
-pub counted : (h : Head) (row : List ℕ) → Accepted h row → CountsOf (plan_of h row) (count_answer h row).row.lower (count_answer h row).row.upper
+counts_of : (h : Head) (row : List ℕ) → Accepted h row → CountsOf (plan_of h row) (count_answer h row).row.lower (count_answer h row).row.upper
 unfolding count_answer count_rows
-counted h row accepted =
+counts_of h row accepted =
     rw accepted
     (record {
       lowers_long = length_tabulate places _;
@@ -49,3 +54,16 @@ counted h row accepted =
       lowers_are = get_d_tabulate places _;
       uppers_are = get_d_tabulate places _;
     })
+
+count_number : (h : Head) (row : List ℕ) → Accepted h row → (count_answer h row).refusal ≡ 0
+unfolding count_answer
+count_number h row accepted = rw accepted refl
+
+module _ (h : Head) (row : List ℕ) (accepted : Accepted h row) where
+  pub is_counted : (r : Result CountRow Refusal) → count_result r ≡ count_answer h row → IsOk r
+  unfolding count_refused
+  is_counted (Ok rows) is = refl
+  is_counted (Err e) is = absurd (not_accepted e _ (ap (λ (a : CountAnswer). a.refusal) is) (count_number h row accepted))
+
+  pub counted : {r : Result CountRow Refusal} {rows : CountRow} → r ≡ Ok rows → count_result r ≡ count_answer h row → CountsOf (plan_of h row) rows.lower rows.upper
+  counted ok is = rw (ap (λ (a : CountAnswer). a.row) (ap count_result (sym ok) ∙ is)) (counts_of h row accepted)

@@ -15,11 +15,7 @@ pub fn bounds_of(head: Head, question: Question, row: &[u32], workspace: &mut [u
     ensures answered { result ≡ bounds_of (plan_of head row.now) question }
     ensures cleared { workspace.new ≡ workspace_left head question workspace.old }
 {
-    let answer = engine::ask(Ask { head, question }, row, workspace);
-    Bounds {
-        lower: answer.lower,
-        upper: answer.upper,
-    }
+    engine::ask(Ask { head, question }, row, workspace).unwrap()
 }
 
 pub fn ruin_of(head: Head, month: usize, row: &[u32], workspace: &mut [u32]) -> Bounds
@@ -28,18 +24,12 @@ pub fn ruin_of(head: Head, month: usize, row: &[u32], workspace: &mut [u32]) -> 
     ensures answered { result ≡ ruin_bounds_of (plan_of head row.now) month }
     ensures cleared { workspace.new ≡ workspace_left head Survive workspace.old }
 {
-    let answer = engine::ruin_in_month(head, month, row, workspace);
-    Bounds {
-        lower: answer.lower,
-        upper: answer.upper,
-    }
+    engine::ruin_in_month(head, month, row, workspace).unwrap()
 }
 
 pub fn count_row_of(head: Head, row: &[u32]) -> CountRow
     requires { Accepted head row.now }
     ensures { CountsOf (plan_of head row.now) result.lower result.upper }
 {
-    let answer = count_row::count_claims(head, row);
-    let counts = answer.row;
-    counts
+    count_row::count_claims(head, row).unwrap()
 }

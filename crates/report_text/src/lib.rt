@@ -34,13 +34,10 @@ fn put_report(text: &mut [u8], bytes: &[u8], workspace: &mut [u32]) -> usize
     ensures written { Appended text.old 0 (report_of bytes.now) text.new result }
     ensures cleared { Cleared (report_needs bytes.now) workspace.old workspace.new }
 {
-    let plan = codec::read_plan(bytes);
-    let refusal = plan.refusal;
-    if refusal != 0 {
-        return put_refused(text, 0, refusal);
+    match codec::read_plan(bytes) {
+        Ok(plan) => put_accepted(text, plan.head, &plan.row, workspace),
+        Err(refusal) => put_refused(text, 0, refusal),
     }
-    let row = plan.row;
-    put_accepted(text, plan.head, &row, workspace)
 }
 
 // The report of an accepted plan, whose row is the first part of the lent one.

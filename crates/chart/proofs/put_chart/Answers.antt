@@ -1,23 +1,27 @@
 -- `chart::put_chart` meets its contract, from the plan that is read.
-use mathlib.Core.Path.{◌∙◌}
+use mathlib.Core.Path.{sym, ap, ◌∙◌}
 use borrow.Author.Rules.{rules}
-use Rattle.codec.proofs.PlanRead.{PlanRead, read_number, plan_read}
+use Rattle.model.proofs.RefusalNumbers.{not_accepted}
+use Rattle.report_lines.specs.Lines.{refused_line}
+use Rattle.codec.proofs.PlanRead.{PlanRead, plan_read, plan_unread}
 use Rattle.chart.proofs.Laws.{chart_accepted, chart_refused}
 use Rattle.chart.proofs.put_chart.Goals as goal
-use Rattle.chart.proofs.put_chart.Goals.{Else-refusal-ne0}
+use Rattle.chart.proofs.put_chart.Goals.{In-Ok}
 
-plan : (c : Else-refusal-ne0) → PlanRead c.args.bytes.now c.read_plan-plan.result
-plan c = plan_read c.args.bytes.now c.read_plan-plan.ensures c.if-refusal-ne0.false
-
-pub returns-then-refusal-ne0 : goal.returns-then-refusal-ne0
-returns-then-refusal-ne0 c =
-    let number = read_number c.args.bytes.now c.read_plan-plan.ensures in
-    rw (chart_refused _ (λ z. c.if-refusal-ne0.true (number ∙ z)), ← number) c.put_refused.ensures
+read : (c : In-Ok) → PlanRead c.args.bytes.now c.in-Ok.plan
+read c = plan_read c.args.bytes.now c.in-Ok.ensures
 
 pub put_plan-requires : goal.put_plan-requires
-put_plan-requires c = let read = plan (goal.at.put_plan-requires c).Else-refusal-ne0 in record { accepted = rw (read.head, read.row) read.accepted; text_room_in_bounds = search rules }
+put_plan-requires c =
+    let plan = read (goal.at.put_plan-requires c).In-Ok in
+    record { accepted = rw (plan.head, plan.row) plan.accepted; text_room_in_bounds = search rules }
 
-pub returns : goal.returns
-returns c =
-    let read = plan (goal.at.returns c).Else-refusal-ne0 in
-    rw (chart_accepted _ read.none, ← read.row, ← read.head) c.put_plan.ensures
+pub returns-in-Ok : goal.returns-in-Ok
+returns-in-Ok c =
+    let plan = read (goal.at.returns-in-Ok c).In-Ok in
+    rw (chart_accepted _ plan.none, ← plan.row, ← plan.head) c.put_plan.ensures
+
+pub returns-in-Err : goal.returns-in-Err
+returns-in-Err c =
+    let number = plan_unread c.args.bytes.now c.in-Err.refusal c.in-Err.ensures in
+    rw (chart_refused _ (not_accepted _ _ number) ∙ ap refused_line (sym number)) c.put_refused.ensures

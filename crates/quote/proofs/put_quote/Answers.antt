@@ -1,22 +1,11 @@
--- `quote::put_quote` meets its contract, from the plan that is read. Assumes nothing.
-use mathlib.Core.Path.{◌∙◌}
-use Rattle.codec.proofs.PlanRead.{PlanRead, read_number, plan_read}
-use Rattle.quote.proofs.Laws.{quote_accepted, quote_refused}
+-- `quote::put_quote` meets its contract: the line of the least opening, or of a refusal. Assumes nothing.
+use mathlib.Core.Path.{refl, ◌∙◌}
+use Rattle.model.proofs.RefusalNumbers.{not_accepted}
+use Rattle.quote.proofs.Laws.{answer_shown, answer_refused}
 use Rattle.quote.proofs.put_quote.Goals as goal
-use Rattle.quote.proofs.put_quote.Goals.{Else-refusal-ne0}
 
-plan : (c : Else-refusal-ne0) → PlanRead c.args.bytes.now c.read_plan-plan.result
-plan c = plan_read c.args.bytes.now c.read_plan-plan.ensures c.if-refusal-ne0.false
+pub returns-in-Ok : goal.returns-in-Ok
+returns-in-Ok c = rw (c.in-Ok.ensures ∙ answer_shown _ refl) c.put_least.ensures
 
-pub returns-then-refusal-ne0 : goal.returns-then-refusal-ne0
-returns-then-refusal-ne0 c =
-    let number = read_number c.args.bytes.now c.read_plan-plan.ensures in
-    rw (quote_refused _ _ (λ z. c.if-refusal-ne0.true (number ∙ z)), ← number) c.put_refused.ensures
-
-pub least_of-requires : goal.least_of-requires
-least_of-requires c = let read = plan (goal.at.least_of-requires c).Else-refusal-ne0 in rw (read.head, read.row) read.accepted
-
-pub returns : goal.returns
-returns c =
-    let read = plan (goal.at.returns c).Else-refusal-ne0 in
-    rw (quote_accepted _ _ read.none, ← read.row, ← read.head, ← c.least_of.ensures) c.put_answer.ensures
+pub returns-in-Err : goal.returns-in-Err
+returns-in-Err c = rw (c.in-Err.ensures ∙ answer_refused _ (not_accepted c.in-Err.refusal _ refl)) c.put_refused.ensures
