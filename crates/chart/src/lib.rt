@@ -8,10 +8,10 @@ ghost use Rattle.text.specs.Text.{joined, Appended};
 ghost use Rattle.report_lines.specs.Lines.{line_room};
 ghost use Rattle.chart.specs.Chart.{chart_lines, pair_line, text_room, chart_of};
 
-use model::Head;
+use model::{Head, limits};
 use plan::lengths::row_length;
 use report_lines::lines::{put_numbered, put_refused};
-use rooms::{blank_bounds, blank_survival_workspace};
+use rooms::blank;
 use survival::all_openings;
 
 // Room for every chart: the proof of `chart` fails where it is less than `text_room`.
@@ -45,8 +45,8 @@ fn put_plan(text: &mut [u8], head: Head, row: &[u32]) -> usize
     ensures { Appended text.old 0 (chart_lines head (take (row_length head) row.now)) text.new result }
 {
     let used = row_length(head);
-    let mut workspace = blank_survival_workspace();
-    let mut bounds = blank_bounds();
+    let mut workspace: [u32; limits::SURVIVAL] = blank();
+    let mut bounds: [u32; limits::BOUNDS] = blank();
     all_openings(head, &row[..used], &mut workspace, &mut bounds).unwrap();
     put_lines(text, &bounds, head.opening)
 }

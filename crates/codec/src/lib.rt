@@ -7,7 +7,7 @@ ghost use Rattle.codec.specs.Answers.{head_result, read_answer, row_after, plan_
 use model::{Head, Refusal, limits};
 use plan::lengths::row_length;
 use plan_bits::{format, reading, writing};
-use rooms::blank_row;
+use rooms::blank;
 
 // A plan as it is read from bytes: its head, and a row with room for every plan's, which past the plan's is 0.
 #[derive(Clone, Copy)]
@@ -33,7 +33,7 @@ pub fn read(bytes: &[u8], row: &mut [u32]) -> Result<Head, Refusal>
 pub fn read_plan(bytes: &[u8]) -> Result<BytePlan, Refusal>
     ensures { plan_result result ≡ byte_plan bytes.now }
 {
-    let mut row = blank_row();
+    let mut row: [u32; limits::ROW] = blank();
     let head = read(bytes, &mut row)?;
     Ok(BytePlan { head, row })
 }

@@ -17,7 +17,7 @@ use plan::check_head;
 use plan::lengths::row_length;
 use plan_bits::format;
 use plan_bits::reading::head_of;
-use rooms::blank_rows;
+use rooms::blank;
 
 // A mixture as it is read from bytes: its row, and how many numbers of that are the plans'.
 #[derive(Clone, Copy)]
@@ -47,7 +47,7 @@ pub fn read_mixture(bytes: &[u8]) -> Result<ByteMixture, Refusal>
     ensures read { IfOk result (λ p. MixtureRead bytes.now p.mixture p.used p.row) }
 {
     check_count(bytes)?;
-    let mut row = blank_rows();
+    let mut row: [u32; limits::ROWS] = blank();
     let count = usize::from(bytes[0]);
     let start = 1 + 4 * count;
     let plans = read_plans(&bytes[start..], count, &mut row)?;

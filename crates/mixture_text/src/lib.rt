@@ -13,8 +13,9 @@ ghost use Rattle.mixture_text.specs.Report.{mixture_report_of, report_needs};
 use mixture_bytes::read_mixture;
 use mixture_lines::put_mixture;
 use mixture_plans::Mixture;
+use model::limits;
 use report_lines::lines::put_refused;
-use rooms::blank_workspace;
+use rooms::blank;
 
 // Room for every report: the proof of `report` fails where it is less than `mixture_text_room`.
 pub const TEXT: usize = 65536;
@@ -26,7 +27,7 @@ pub fn report(bytes: &[u8], text: &mut [u8; TEXT]) -> usize
     ensures written { text.new ≡ mixture_report_of bytes.now ++ drop result text.old }
     ensures within { (result ≤ length text.new) × (result ≡ length (take result text.new)) }
 {
-    let mut workspace = blank_workspace();
+    let mut workspace: [u32; limits::WORKSPACE] = blank();
     put_report(text, bytes, &mut workspace)
 }
 

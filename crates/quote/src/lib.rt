@@ -7,11 +7,11 @@ ghost use Rattle.text.specs.Text.{Appended};
 ghost use Rattle.report_lines.specs.Lines.{line_room, opening_line};
 ghost use Rattle.quote.specs.Quote.{answer_line, quote_of};
 
-use model::Refusal;
+use model::{Refusal, limits};
 use opening_search::LeastOpening;
 use plan::lengths::row_length;
 use report_lines::lines::{put_numbered, put_refused};
-use rooms::blank_survival_workspace;
+use rooms::blank;
 
 // Room for every line: the proof of `quote` fails where it is less than `line_room`.
 pub const TEXT: usize = 128;
@@ -44,7 +44,7 @@ fn least_for(bytes: &[u8], target: u32) -> Result<LeastOpening, Refusal>
     let plan = codec::read_plan(bytes)?;
     let row: &[u32] = &plan.row;
     let used = row_length(plan.head);
-    let mut workspace = blank_survival_workspace();
+    let mut workspace: [u32; limits::SURVIVAL] = blank();
     opening_search::least(plan.head, &row[..used], target, &mut workspace)
 }
 

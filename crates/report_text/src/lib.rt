@@ -8,11 +8,11 @@ ghost use Rattle.text.specs.Text.{Appended};
 ghost use Rattle.report_lines.specs.Asking.{Answerable, Cleared};
 ghost use Rattle.report_text.specs.Report.{text_room, plan_report, report_of, plan_needs, report_needs};
 
-use model::{Head, Question};
+use model::{Head, Question, limits};
 use plan::lengths::row_length;
 use report_groups::{PlanAsked, put_counts, put_group};
 use report_lines::lines::{put_head, put_refused};
-use rooms::blank_workspace;
+use rooms::blank;
 use ruin_lines::put_ruins;
 
 // Room for every report: the proof of `report` fails where it is less than `text_room`.
@@ -25,7 +25,7 @@ pub fn report(bytes: &[u8], text: &mut [u8; TEXT]) -> usize
     ensures written { text.new ≡ report_of bytes.now ++ drop result text.old }
     ensures within { (result ≤ length text.new) × (result ≡ length (take result text.new)) }
 {
-    let mut workspace = blank_workspace();
+    let mut workspace: [u32; limits::WORKSPACE] = blank();
     put_report(text, bytes, &mut workspace)
 }
 

@@ -6,9 +6,9 @@ ghost use Rattle.std.specs.Result.{IfOk};
 ghost use Rattle.codec.specs.Answers.{head_result, length_result};
 ghost use Rattle.sheet_plan.specs.Answers.{sheet_answer, sheet_row_after, plan_answer, plan_bytes_after};
 
-use model::{Head, Refusal};
+use model::{Head, Refusal, limits};
 use plan::lengths::row_length;
-use rooms::blank_row;
+use rooms::blank;
 use sheet_values::{bytes, rules};
 
 // Reads a sheet and answers the plan's head: its row fills the first numbers of the lent row, the rest of which is untouched, as all of it is if the sheet is
@@ -35,7 +35,7 @@ pub fn write_plan(bytes: &[u8], plan: &mut [u8]) -> Result<usize, Refusal>
     ensures memory { plan.new ≡ plan_bytes_after bytes.now plan.old }
     ensures within { IfOk result (λ n. (n ≤ length plan.new) × (n ≡ length (take n plan.new))) }
 {
-    let mut row = blank_row();
+    let mut row: [u32; limits::ROW] = blank();
     let head = read(bytes, &mut row)?;
     let count = row_length(head);
     codec::write(head, &row[..count], plan)

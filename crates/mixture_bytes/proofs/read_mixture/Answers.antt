@@ -40,7 +40,7 @@ pub read_plans-requires : goal.read_plans-requires
 read_plans-requires c =
     let k = known (goal.at.read_plans-requires c).In_ok-check_count in
     let is = count_is (goal.at.read_plans-requires c).After-from-count in
-    record { count_nonzero = (omega (arith, is, k.some), omega (arith, is, k.few)); row_len = sym c.blank_rows-row.ensures.sized }
+    record { count_nonzero = (omega (arith, is, k.some), omega (arith, is, k.few)); row_len = sym c.blank-row.ensures.sized }
 
 pub returns-in_err-plans : goal.returns-in_err-plans
 returns-in_err-plans c =
@@ -69,7 +69,7 @@ inside : (c : After-read_weights-weights) → c.in_ok-plans.plans.used ≤ lengt
 inside c =
     let p = c.in_ok-plans in
     lent_inside _ (sym c.in_ok-check_count.ensures) _ c.from-count.ensures _ p.ensures.number refl _ _ p.ensures.read _ _
-    c.blank_rows-row.ensures.sized p.ensures.memory c.read_plans.auto.row _ c.read_weights-weights.ensures.read c.read_weights-weights.ensures.sized
+    c.blank-row.ensures.sized p.ensures.memory c.read_plans.auto.row _ c.read_weights-weights.ensures.read c.read_weights-weights.ensures.sized
 
 pub slice_bounds-row-end : goal.slice_bounds-row-end
 slice_bounds-row-end c = inside (goal.at.slice_bounds-row-end c).After-read_weights-weights
@@ -85,7 +85,7 @@ returns-in_err-check_mixture c =
       number =
           passed_on _ _ from.ensures.1
           ∙ number_as _ (sym c.in_ok-check_count.ensures) _ (count_is (goal.at.returns-in_err-check_mixture c).After-from-count) _ p.ensures.number refl _ _ p.ensures.read _ _
-          c.blank_rows-row.ensures.sized p.ensures.memory c.read_plans.auto.row _ c.read_weights-weights.ensures.read c.read_weights-weights.ensures.sized _
+          c.blank-row.ensures.sized p.ensures.memory c.read_plans.auto.row _ c.read_weights-weights.ensures.read c.read_weights-weights.ensures.sized _
           c.in_err-check_mixture.ensures;
       read = IfOk-from_err _ _ from.ensures.0;
     }
@@ -98,9 +98,9 @@ returns c =
     let weights = c.read_weights-weights.ensures in
     record {
       number =
-          number_as _ none _ counted _ p.ensures.number refl _ _ p.ensures.read _ _ c.blank_rows-row.ensures.sized p.ensures.memory c.read_plans.auto.row _ weights.read
+          number_as _ none _ counted _ p.ensures.number refl _ _ p.ensures.read _ _ c.blank-row.ensures.sized p.ensures.memory c.read_plans.auto.row _ weights.read
           weights.sized _ c.in_ok-check_mixture.ensures;
       read =
-          read_as _ none _ counted _ p.ensures.number refl _ _ p.ensures.read _ _ c.blank_rows-row.ensures.sized p.ensures.memory c.read_plans.auto.row _ weights.read weights.sized
+          read_as _ none _ counted _ p.ensures.number refl _ _ p.ensures.read _ _ c.blank-row.ensures.sized p.ensures.memory c.read_plans.auto.row _ weights.read weights.sized
           (sym c.in_ok-check_mixture.ensures);
     }

@@ -35,4 +35,4 @@ slice_bounds-least-end c =
 
 pub returns : goal.returns
 returns c =
-    quote_read c.args.target (read (goal.at.returns c).In_ok-plan) _ _ _ c.row_length-used.ensures c.blank_survival_workspace-workspace.ensures.sized c.least.ensures.answered
+    quote_read c.args.target (read (goal.at.returns c).In_ok-plan) _ _ _ c.row_length-used.ensures c.blank-workspace.ensures.sized c.least.ensures.answered

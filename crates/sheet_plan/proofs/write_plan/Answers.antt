@@ -46,7 +46,7 @@ inside bytes room left (Err _) answered same = tt
 pub returns-in_err-head : goal.returns-in_err-head
 returns-in_err-head c =
     let bytes = c.args.bytes.now in
-    let blank = c.blank_row-row in
+    let blank = c.blank-row in
     let needed = byte_length (plan_head bytes) in
     let number = (given bytes blank.result _ blank.ensures.sized c.in_err-head.ensures.answer).1 in
     let some : first (sheet_checks bytes) ≡ 0 → ⊥ = not_accepted _ _ number in
@@ -58,10 +58,10 @@ returns-in_err-head c =
 
 -- nothing was refused, neither by the sheet's checks nor for want of room
 none : (c : In_ok-head) → first (sheet_checks c.args.bytes.now) ≡ 0
-none c = sym (given _ _ _ c.blank_row-row.ensures.sized c.in_ok-head.ensures.answer).1
+none c = sym (given _ _ _ c.blank-row.ensures.sized c.in_ok-head.ensures.answer).1
 
-none_read : (c : In_ok-head) → sheet_refusal c.args.bytes.now (row_length (plan_head c.args.bytes.now)) (length c.blank_row-row.result) ≡ 0
-none_read c = sym (given _ _ _ c.blank_row-row.ensures.sized c.in_ok-head.ensures.answer).0
+none_read : (c : In_ok-head) → sheet_refusal c.args.bytes.now (row_length (plan_head c.args.bytes.now)) (length c.blank-row.result) ≡ 0
+none_read c = sym (given _ _ _ c.blank-row.ensures.sized c.in_ok-head.ensures.answer).0
 
 head_is : (c : In_ok-head) → c.in_ok-head.head ≡ plan_head c.args.bytes.now
 head_is c = ap (λ (a : ReadAnswer). a.head) (c.in_ok-head.ensures.answer ∙ head_answered _ _ (none_read c))
@@ -74,10 +74,10 @@ row_length-count-requires c =
 -- what is known of the row once it is counted: it was read, and its first numbers are the plan's
 module _
     (c : After-row_length-count)
-    (read_ok : sheet_refusal c.args.bytes.now (row_length (plan_head c.args.bytes.now)) (length c.blank_row-row.result) ≡ 0)
+    (read_ok : sheet_refusal c.args.bytes.now (row_length (plan_head c.args.bytes.now)) (length c.blank-row.result) ≡ 0)
     (head : c.in_ok-head.head ≡ plan_head c.args.bytes.now)
   where
-    row_read : c.read.new.row ≡ plan_row c.args.bytes.now ++ drop (row_length (plan_head c.args.bytes.now)) c.blank_row-row.result
+    row_read : c.read.new.row ≡ plan_row c.args.bytes.now ++ drop (row_length (plan_head c.args.bytes.now)) c.blank-row.result
     row_read = c.in_ok-head.ensures.memory ∙ filled _ _ _ _ read_ok
 
     plan-length : length (plan_row c.args.bytes.now) ≡ c.row_length-count.result
