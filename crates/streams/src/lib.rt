@@ -18,6 +18,7 @@ pub struct Reach {
 }
 
 // Reads until the buffer is full, the input ends or a read fails. `within` is for a caller that takes the first bytes of the buffer.
+// Not one function with `write_all`: that lends its bytes to be read, and fails where it ends short, so that only the loop's test would be shared.
 pub fn read_all<R: Read, E: Write>(
     reader: &mut R,
     buffer: &mut [u8],
@@ -30,6 +31,7 @@ pub fn read_all<R: Read, E: Write>(
 {
     let mut length = 0;
     let mut last = Some(0);
+    // A turn goes as far as the system read, so that no `for` goes over them; std's `read_exact` does not say how far it came, as `reached` does.
     while length < buffer.len() {
         match reader.read(&mut buffer[length..]) {
             Ok(more) => {
@@ -61,6 +63,7 @@ pub fn write_all<W: Write, E: Write>(
     let mut written = 0;
     let mut last = Some(0);
     let mut why = Error::from_raw_os_error(0);
+    // A turn goes as far as the system wrote, so that no `for` goes over them; std's `write_all` does not say how far it came, as `reached` does.
     while written < text.len() {
         match writer.write(&text[written..]) {
             Ok(taken) => {

@@ -12,7 +12,7 @@ use model::Question;
 use plain_engine::steps::{claims_after, followed};
 use ruin_rows::ruin_weight;
 use text::{put_entry, put_line};
-use tree_nodes::node_allowed;
+use tree_nodes::{Node, node_allowed};
 use tree_values::put_value;
 
 // The line of a claim whose weight is at a place of the table; there is none of an empty size.
@@ -23,14 +23,13 @@ fn put_claim(
     month: usize,
     later: &[u32],
     severity: &[u32],
-    left: usize,
-    level: usize,
+    node: Node,
     place: usize,
 ) -> usize
-    requires terms { Terms severity.now later.now level }
-    requires place_lt_level { (place < level) × (place < length severity.now) × (month + 1 < 2 ^ 64) }
-    requires place_in_bounds { at + length (claim_text question severity.now month later.now left level (suc place)) ≤ length text.old }
-    ensures { Appended text.old at (claim_text question severity.now month later.now left level (suc place)) text.new result }
+    requires terms { Terms severity.now later.now node.level }
+    requires place_lt_level { (place < node.level) × (place < length severity.now) × (month + 1 < 2 ^ 64) }
+    requires place_in_bounds { at + length (claim_text question severity.now month later.now node.left node.level (suc place)) ≤ length text.old }
+    ensures { Appended text.old at (claim_text question severity.now month later.now node.left node.level (suc place)) text.new result }
 {
     let weight = u64::from(severity[place]);
     if weight == 0 {
@@ -38,10 +37,14 @@ fn put_claim(
     }
     let end = put_entry(text, at, b"  claim", &[place as u64 + 1]);
     let end = put_entry(text, end, b" weight", &[weight]);
-    if followed(question, left, 1) == 0 {
+    if followed(question, node.left, 1) == 0 {
         return put_line(text, end, b" none left", &[0, 0]);
     }
-    let fewer = claims_after(question, left);
+    let fewer = claims_after(question, node.left);
+    let after = Node {
+        left: fewer,
+        level: node.level - place,
+    };
     put_value(
         text,
         end,
@@ -50,8 +53,7 @@ fn put_claim(
         month + 1,
         later,
         severity,
-        fewer,
-        level - place,
+        after,
     )
 }
 
@@ -63,17 +65,16 @@ fn put_claims(
     month: usize,
     later: &[u32],
     severity: &[u32],
-    left: usize,
-    level: usize,
+    node: Node,
 ) -> usize
-    requires terms { Terms severity.now later.now level }
+    requires terms { Terms severity.now later.now node.level }
     requires month_bound { month + 1 < 2 ^ 64 }
-    requires level_in_bounds { at + length (claim_texts question severity.now month later.now left level) ≤ length text.old }
-    ensures { Appended text.old at (claim_texts question severity.now month later.now left level) text.new result }
+    requires level_in_bounds { at + length (claim_texts question severity.now month later.now node.left node.level) ≤ length text.old }
+    ensures { Appended text.old at (claim_texts question severity.now month later.now node.left node.level) text.new result }
 {
     let mut end = at;
-    for i in 0..level.min(severity.len()) {
-        end = put_claim(text, end, question, month, later, severity, left, level, i);
+    for i in 0..node.level.min(severity.len()) {
+        end = put_claim(text, end, question, month, later, severity, node, i);
     }
     end
 }
@@ -87,17 +88,20 @@ fn put_branches(
     chances: &[u32],
     severity: &[u32],
     tail: u32,
-    left: usize,
-    level: usize,
+    node: Node,
 ) -> usize
-    requires terms { Terms severity.now chances.now level }
+    requires terms { Terms severity.now chances.now node.level }
     requires chances_nonzero { (0 < length chances.now) × (month + 1 < 2 ^ 64) × (total severity.now + tail ≤ S) }
-    requires level_in_bounds { at + length (branch_texts question severity.now tail month chances.now left level) ≤ length text.old }
-    ensures { Appended text.old at (branch_texts question severity.now tail month chances.now left level) text.new result }
+    requires level_in_bounds { at + length (branch_texts question severity.now tail month chances.now node.left node.level) ≤ length text.old }
+    ensures { Appended text.old at (branch_texts question severity.now tail month chances.now node.left node.level) text.new result }
 {
     let later = &chances[1..];
     let chance = [u64::from(chances[0])];
-    let ruins = [ruin_weight(severity, tail, level + 1)];
+    let quiet = Node {
+        left: node.left,
+        level: node.level + 1,
+    };
+    let ruins = [ruin_weight(severity, tail, quiet.level)];
     let end = put_line(text, at, b"  chance", &chance);
     let end = put_value(
         text,
@@ -107,10 +111,9 @@ fn put_branches(
         month + 1,
         later,
         severity,
-        left,
-        level + 1,
+        quiet,
     );
-    let end = put_claims(text, end, question, month, later, severity, left, level);
+    let end = put_claims(text, end, question, month, later, severity, node);
     put_line(text, end, b"  ruin weight", &ruins)
 }
 
@@ -123,25 +126,22 @@ pub fn put_node(
     chances: &[u32],
     severity: &[u32],
     tail: u32,
-    left: usize,
-    level: usize,
+    node: Node,
 ) -> usize
-    requires terms { Terms severity.now chances.now level }
+    requires terms { Terms severity.now chances.now node.level }
     requires month_bound { (month + 1 < 2 ^ 64) × (total severity.now + tail ≤ S) }
-    requires level_in_bounds { at + length (node_text question severity.now tail month chances.now left level) ≤ length text.old }
-    ensures { Appended text.old at (node_text question severity.now tail month chances.now left level) text.new result }
+    requires level_in_bounds { at + length (node_text question severity.now tail month chances.now node.left node.level) ≤ length text.old }
+    ensures { Appended text.old at (node_text question severity.now tail month chances.now node.left node.level) text.new result }
 {
     let end = put_entry(text, at, b"month", &[month as u64]);
     let end = put_value(
-        text, end, b" level", question, month, chances, severity, left, level,
+        text, end, b" level", question, month, chances, severity, node,
     );
     if chances.is_empty() {
         return end;
     }
-    if !node_allowed(question, month, level) {
+    if !node_allowed(question, month, node.level) {
         return end;
     }
-    put_branches(
-        text, end, question, month, chances, severity, tail, left, level,
-    )
+    put_branches(text, end, question, month, chances, severity, tail, node)
 }

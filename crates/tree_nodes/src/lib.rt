@@ -48,33 +48,38 @@ pub fn leads(
     month: usize,
     chances: &[u32],
     severity: &[u32],
-    left: usize,
-    level: usize,
+    node: Node,
     target: Node,
 ) -> bool
-    requires { (month + length chances.now < 2 ^ 64) × (level + length chances.now < 2 ^ 64) }
-    ensures { result ≡ Nodes·leads question severity.now month chances.now target.left target.level left level }
+    requires { (month + length chances.now < 2 ^ 64) × (node.level + length chances.now < 2 ^ 64) }
+    ensures { result ≡ Nodes·leads question severity.now month chances.now target.left target.level node.left node.level }
 {
     if chances.is_empty() {
-        return Node { left, level } == target;
+        return node == target;
     }
+    let Node { left, level } = node;
     if !node_allowed(question, month, level) {
         return false;
     }
     let later = &chances[1..];
     let next = month + 1;
     let chance = chances[0];
-    if may_pass(chance) && leads(question, next, later, severity, left, level + 1, target) {
+    let quiet = Node {
+        left,
+        level: level + 1,
+    };
+    if may_pass(chance) && leads(question, next, later, severity, quiet, target) {
         return true;
     }
     let fewer = claims_after(question, left);
     let most = followed(question, left, level.min(severity.len()));
     for x in 0..most {
         let weight = severity[x];
-        let below = level - x;
-        if may_come(chance, weight)
-            && leads(question, next, later, severity, fewer, below, target)
-        {
+        let after = Node {
+            left: fewer,
+            level: level - x,
+        };
+        if may_come(chance, weight) && leads(question, next, later, severity, after, target) {
             return true;
         }
     }

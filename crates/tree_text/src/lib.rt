@@ -2,7 +2,7 @@
 #![tactic(auto)]
 
 ghost use Rattle.std.specs.Prelude.{◌≡◌, ◌++◌, ◌+◌, ◌≤◌, length, take, drop};
-ghost use Rattle.model.specs.Refusal.{Accepted};
+ghost use Rattle.model.specs.Refusal.{Accepted, refusal_number};
 ghost use Rattle.text.specs.Text.{Appended};
 ghost use Rattle.report_lines.specs.Lines.{refused_line};
 ghost use Rattle.tree_text.specs.Tree.{small_plan, node_if, level_text, month_text, first_part, accepted_part, tree_part};
@@ -10,8 +10,8 @@ ghost use Rattle.tree_text.specs.Rooms.{text_room};
 ghost use Rattle.tree_text.specs.Terms.{SmallTerms};
 
 use codec::read_plan;
-use model::{Ask, Head, Question, limits};
-use plain_engine::refusal;
+use model::{Ask, Head, Question, Refusal, limits};
+use plain_engine::check;
 use plain_engine::value::claims_to_place;
 use plan::lengths::row_length;
 use report_lines::lines::put_refused;
@@ -39,24 +39,22 @@ fn put_tree(text: &mut [u8], bytes: &[u8], question: Question, month: usize) -> 
     requires { text_room ≤ length text.old }
     ensures { Appended text.old 0 (tree_part question bytes.now month) text.new result }
 {
-    let plan = read_plan(bytes);
-    let wrong = plan.refusal;
-    if wrong != 0 {
-        return put_first(text, month, wrong);
-    }
-    let row = plan.row;
+    let plan = match read_plan(bytes) {
+        Ok(plan) => plan,
+        Err(refusal) => return put_first(text, month, refusal),
+    };
     let head = plan.head;
     let used = row_length(head);
-    put_plan(text, head, &row[..used], question, month)
+    put_plan(text, head, &plan.row[..used], question, month)
 }
 
 // A refusal, where it is the part of no months.
-fn put_first(text: &mut [u8], month: usize, number: u32) -> usize
+fn put_first(text: &mut [u8], month: usize, refusal: Refusal) -> usize
     requires { text_room ≤ length text.old }
-    ensures { Appended text.old 0 (first_part month (refused_line number)) text.new result }
+    ensures { Appended text.old 0 (first_part month (refused_line (refusal_number refusal))) text.new result }
 {
     if month == 0 {
-        return put_refused(text, 0, number);
+        return put_refused(text, 0, refusal);
     }
     0
 }
@@ -67,9 +65,8 @@ fn put_plan(text: &mut [u8], head: Head, row: &[u32], question: Question, month:
     requires text_room_in_bounds { text_room ≤ length text.old }
     ensures { Appended text.old 0 (accepted_part question head row.now month) text.new result }
 {
-    let wrong = refusal(Ask { head, question }, row);
-    if wrong != 0 {
-        return put_first(text, month, wrong);
+    if let Err(refusal) = check(Ask { head, question }, row) {
+        return put_first(text, month, refusal);
     }
     let months = head.months;
     let end = months + head.sizes;
@@ -133,7 +130,15 @@ fn put_level(
     let mut end = at;
     for left in (least..=most).rev() {
         end = put_reached(
-            text, end, question, month, opening, chances, severity, tail, left, level,
+            text,
+            end,
+            question,
+            month,
+            opening,
+            chances,
+            severity,
+            tail,
+            Node { left, level },
         );
     }
     end
@@ -149,25 +154,18 @@ fn put_reached(
     chances: &[u32],
     severity: &[u32],
     tail: u32,
-    left: usize,
-    level: usize,
+    node: Node,
 ) -> usize
     requires small_terms { SmallTerms question opening chances.now severity.now tail month }
-    requires level_bound { level ≤ opening + month }
-    requires left_in_bounds { at + length (node_if question (small_plan opening chances.now severity.now tail) month level left) ≤ length text.old }
-    ensures { Appended text.old at (node_if question (small_plan opening chances.now severity.now tail) month level left) text.new result }
+    requires level_bound { node.level ≤ opening + month }
+    requires left_in_bounds { at + length (node_if question (small_plan opening chances.now severity.now tail) month node.level node.left) ≤ length text.old }
+    ensures { Appended text.old at (node_if question (small_plan opening chances.now severity.now tail) month node.level node.left) text.new result }
 {
-    let target = Node { left, level };
-    let first = claims_to_place(question);
-    if leads(
-        question,
-        0,
-        &chances[..month],
-        severity,
-        first,
-        opening,
-        target,
-    ) {
+    let first = Node {
+        left: claims_to_place(question),
+        level: opening,
+    };
+    if leads(question, 0, &chances[..month], severity, first, node) {
         return put_node(
             text,
             at,
@@ -176,8 +174,7 @@ fn put_reached(
             &chances[month..],
             severity,
             tail,
-            left,
-            level,
+            node,
         );
     }
     at

@@ -10,7 +10,7 @@ use model::{Bounds, Question, Rounding};
 use plain_engine::steps::taken;
 use plain_engine::value::value;
 use text::{put_entry, put_line};
-use tree_nodes::node_allowed;
+use tree_nodes::{Node, node_allowed};
 
 // The claims left to place, where the question counts them.
 fn put_left(text: &mut [u8], at: usize, question: Question, left: usize) -> usize
@@ -31,17 +31,16 @@ fn put_place(
     at: usize,
     word: &[u8],
     question: Question,
-    left: usize,
-    level: usize,
+    node: Node,
     allowed: bool,
     bounds: Bounds,
 ) -> usize
-    requires { at + length (place_text word.now question left level allowed bounds) ≤ length text.old }
-    ensures { Appended text.old at (place_text word.now question left level allowed bounds) text.new result }
+    requires { at + length (place_text word.now question node.left node.level allowed bounds) ≤ length text.old }
+    ensures { Appended text.old at (place_text word.now question node.left node.level allowed bounds) text.new result }
 {
     let numbers = [u64::from(bounds.lower), u64::from(bounds.upper)];
-    let end = put_entry(text, at, word, &[level as u64]);
-    let end = put_left(text, end, question, left);
+    let end = put_entry(text, at, word, &[node.level as u64]);
+    let end = put_left(text, end, question, node.left);
     if allowed {
         return put_line(text, end, b"", &numbers);
     }
@@ -54,12 +53,12 @@ fn bounds_of(
     month: usize,
     chances: &[u32],
     severity: &[u32],
-    left: usize,
-    level: usize,
+    node: Node,
 ) -> Bounds
-    requires { Terms severity.now chances.now level }
-    ensures { result ≡ node_bounds question severity.now month chances.now left level }
+    requires { Terms severity.now chances.now node.level }
+    ensures { result ≡ node_bounds question severity.now month chances.now node.left node.level }
 {
+    let Node { left, level } = node;
     let allowed = node_allowed(question, month, level);
     let lower = value(question, chances, severity, left, level, Rounding::Down);
     let upper = value(question, chances, severity, left, level, Rounding::Up);
@@ -78,22 +77,13 @@ pub fn put_value(
     month: usize,
     chances: &[u32],
     severity: &[u32],
-    left: usize,
-    level: usize,
+    node: Node,
 ) -> usize
-    requires terms { Terms severity.now chances.now level }
-    requires level_in_bounds { at + length (value_text word.now question severity.now month chances.now left level) ≤ length text.old }
-    ensures { Appended text.old at (value_text word.now question severity.now month chances.now left level) text.new result }
+    requires terms { Terms severity.now chances.now node.level }
+    requires level_in_bounds { at + length (value_text word.now question severity.now month chances.now node.left node.level) ≤ length text.old }
+    ensures { Appended text.old at (value_text word.now question severity.now month chances.now node.left node.level) text.new result }
 {
-    let bounds = bounds_of(question, month, chances, severity, left, level);
-    put_place(
-        text,
-        at,
-        word,
-        question,
-        left,
-        level,
-        node_allowed(question, month, level),
-        bounds,
-    )
+    let allowed = node_allowed(question, month, node.level);
+    let bounds = bounds_of(question, month, chances, severity, node);
+    put_place(text, at, word, question, node, allowed, bounds)
 }

@@ -32,14 +32,14 @@ ruin_text n = line (ascii "  ruin weight") (n ∷ [])
 
 parts :
     (c : After-ruin_weight) → let a = c.args in
-    branch_texts a.question a.severity.now a.tail a.month a.chances.now a.left a.level
+    branch_texts a.question a.severity.now a.tail a.month a.chances.now a.node.left a.node.level
     ≡ chance_text c.from.result
-    ++ quiet_text a.question a.severity.now a.month a.chances.now a.left a.level
-    ++ sizes_text a.question a.severity.now a.month a.chances.now a.left a.level
+    ++ quiet_text a.question a.severity.now a.month a.chances.now a.node.left a.node.level
+    ++ sizes_text a.question a.severity.now a.month a.chances.now a.node.left a.node.level
     ++ ruin_text c.ruin_weight.result
 parts c =
     let a = c.args in
-    branch_parts a.question a.severity.now a.tail a.month a.chances.now a.left a.level c.from.result c.ruin_weight.result c.requires.chances_nonzero.0
+    branch_parts a.question a.severity.now a.tail a.month a.chances.now a.node.left a.node.level c.from.result c.ruin_weight.result c.requires.chances_nonzero.0
     c.from.ensures c.ruin_weight.ensures
 
 -- room for the first parts
@@ -48,8 +48,8 @@ room_all :
     a.at
     + length
     (chance_text c.from.result
-    ++ quiet_text a.question a.severity.now a.month a.chances.now a.left a.level
-    ++ sizes_text a.question a.severity.now a.month a.chances.now a.left a.level
+    ++ quiet_text a.question a.severity.now a.month a.chances.now a.node.left a.node.level
+    ++ sizes_text a.question a.severity.now a.month a.chances.now a.node.left a.node.level
     ++ ruin_text c.ruin_weight.result)
     ≤ length a.text.now
 room_all c = omega (arith, c.requires.level_in_bounds, ap length (parts c))
@@ -59,29 +59,29 @@ room_three :
     a.at
     + length
     (chance_text c.from.result
-    ++ quiet_text a.question a.severity.now a.month a.chances.now a.left a.level
-    ++ sizes_text a.question a.severity.now a.month a.chances.now a.left a.level)
+    ++ quiet_text a.question a.severity.now a.month a.chances.now a.node.left a.node.level
+    ++ sizes_text a.question a.severity.now a.month a.chances.now a.node.left a.node.level)
     ≤ length a.text.now
 room_three c =
     let a = c.args in
     room_first a.at
     (chance_text c.from.result
-    ++ quiet_text a.question a.severity.now a.month a.chances.now a.left a.level
-    ++ sizes_text a.question a.severity.now a.month a.chances.now a.left a.level)
+    ++ quiet_text a.question a.severity.now a.month a.chances.now a.node.left a.node.level
+    ++ sizes_text a.question a.severity.now a.month a.chances.now a.node.left a.node.level)
     (ruin_text c.ruin_weight.result) (room_all c)
 
 room_two :
     (c : After-ruin_weight) → let a = c.args in
-    a.at + length (chance_text c.from.result ++ quiet_text a.question a.severity.now a.month a.chances.now a.left a.level) ≤ length a.text.now
+    a.at + length (chance_text c.from.result ++ quiet_text a.question a.severity.now a.month a.chances.now a.node.left a.node.level) ≤ length a.text.now
 room_two c =
     let a = c.args in
-    room_first a.at (chance_text c.from.result ++ quiet_text a.question a.severity.now a.month a.chances.now a.left a.level)
-    (sizes_text a.question a.severity.now a.month a.chances.now a.left a.level) (room_three c)
+    room_first a.at (chance_text c.from.result ++ quiet_text a.question a.severity.now a.month a.chances.now a.node.left a.node.level)
+    (sizes_text a.question a.severity.now a.month a.chances.now a.node.left a.node.level) (room_three c)
 
 -- what is written so far
 two_written :
     (c : After-put_value-end) → let a = c.args in
-    Appended a.text.now a.at (chance_text c.from.result ++ quiet_text a.question a.severity.now a.month a.chances.now a.left a.level) c.put_value-end.new.text c.put_value-end.result
+    Appended a.text.now a.at (chance_text c.from.result ++ quiet_text a.question a.severity.now a.month a.chances.now a.node.left a.node.level) c.put_value-end.new.text c.put_value-end.result
 two_written c = appended_more c.put_line-end.ensures c.put_value-end.ensures
 
 two_long : (c : After-put_value-end) → length c.put_value-end.new.text ≡ length c.args.text.now
@@ -91,23 +91,23 @@ three_written :
     (c : After-put_claims-end) → let a = c.args in
     Appended a.text.now a.at
     (chance_text c.from.result
-    ++ quiet_text a.question a.severity.now a.month a.chances.now a.left a.level
-    ++ sizes_text a.question a.severity.now a.month a.chances.now a.left a.level)
+    ++ quiet_text a.question a.severity.now a.month a.chances.now a.node.left a.node.level
+    ++ sizes_text a.question a.severity.now a.month a.chances.now a.node.left a.node.level)
     c.put_claims-end.new.text c.put_claims-end.result
 three_written c = appended_more (appended_more c.put_line-end.ensures c.put_value-end.ensures) c.put_claims-end.ensures
 
 pub put_line-end-requires : goal.put_line-end-requires
 put_line-end-requires c =
     let a = c.args in
-    room_first a.at (chance_text c.from.result) (quiet_text a.question a.severity.now a.month a.chances.now a.left a.level) (room_two (goal.at.put_line-end-requires c).After-ruin_weight)
+    room_first a.at (chance_text c.from.result) (quiet_text a.question a.severity.now a.month a.chances.now a.node.left a.node.level) (room_two (goal.at.put_line-end-requires c).After-ruin_weight)
 
 pub put_value-end-requires : goal.put_value-end-requires
 put_value-end-requires c =
     let a = c.args in
     record {
-      terms = later_terms Down a.question a.severity.now a.chances.now a.level c.requires.terms c.requires.chances_nonzero.0 _ (omega arith);
+      terms = later_terms Down a.question a.severity.now a.chances.now a.node.level c.requires.terms c.requires.chances_nonzero.0 _ (omega arith);
       level_in_bounds =
-          room_rest (quiet_text a.question a.severity.now a.month a.chances.now a.left a.level) c.put_line-end.ensures c.put_line-end.auto.buffer
+          room_rest (quiet_text a.question a.severity.now a.month a.chances.now a.node.left a.node.level) c.put_line-end.ensures c.put_line-end.auto.buffer
           (room_two (goal.at.put_value-end-requires c).After-ruin_weight);
     }
 
@@ -116,10 +116,10 @@ put_claims-end-requires c =
     let a = c.args in
     let at = goal.at.put_claims-end-requires c in
     record {
-      terms = later_terms Down a.question a.severity.now a.chances.now a.level c.requires.terms c.requires.chances_nonzero.0 _ (omega arith);
+      terms = later_terms Down a.question a.severity.now a.chances.now a.node.level c.requires.terms c.requires.chances_nonzero.0 _ (omega arith);
       month_bound = c.requires.chances_nonzero.1;
       level_in_bounds =
-          room_rest (sizes_text a.question a.severity.now a.month a.chances.now a.left a.level) (two_written at.After-put_value-end) (two_long at.After-put_value-end)
+          room_rest (sizes_text a.question a.severity.now a.month a.chances.now a.node.left a.node.level) (two_written at.After-put_value-end) (two_long at.After-put_value-end)
           (room_three at.After-ruin_weight);
     }
 

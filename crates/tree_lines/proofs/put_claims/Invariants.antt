@@ -6,4 +6,4 @@ use Rattle.tree_values.specs.Lines.{claim_each}
 use Rattle.tree_lines.proofs.put_claims.Given as goal
 
 abbrev pub invariant-loop-i : goal.invariant-loop-i
-invariant-loop-i l = Appending (claim_each l.question l.severity l.month l.later l.left l.level) (min l.level (length l.severity)) l.initial.text l.at l.text l.end l.i
+invariant-loop-i l = Appending (claim_each l.question l.severity l.month l.later l.node.left l.node.level) (min l.node.level (length l.severity)) l.initial.text l.at l.text l.end l.i

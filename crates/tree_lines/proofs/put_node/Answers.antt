@@ -22,47 +22,47 @@ first_text q F t Ps k s = entry (ascii "month") (t ∷ []) ++ value_text (ascii 
 abbrev below : Question → List ℕ → ℕ → ℕ → List ℕ → ℕ → ℕ → List ℕ
 below q F tail t Ps k s = cond (node_allowed q t s) (branch_texts q F tail t Ps k s) []
 
-first_room : (c : Start) → let a = c.args in a.at + length (first_text a.question a.severity.now a.month a.chances.now a.left a.level) ≤ length a.text.now
+first_room : (c : Start) → let a = c.args in a.at + length (first_text a.question a.severity.now a.month a.chances.now a.node.left a.node.level) ≤ length a.text.now
 unfolding node_text
 first_room c =
     let a = c.args in
-    room_first a.at (first_text a.question a.severity.now a.month a.chances.now a.left a.level) (below a.question a.severity.now a.tail a.month a.chances.now a.left a.level)
+    room_first a.at (first_text a.question a.severity.now a.month a.chances.now a.node.left a.node.level) (below a.question a.severity.now a.tail a.month a.chances.now a.node.left a.node.level)
     c.requires.level_in_bounds
 
 below_room :
     (c : After-put_value-end) → let a = c.args in
-    c.put_value-end.result + length (below a.question a.severity.now a.tail a.month a.chances.now a.left a.level) ≤ length c.put_value-end.new.text
+    c.put_value-end.result + length (below a.question a.severity.now a.tail a.month a.chances.now a.node.left a.node.level) ≤ length c.put_value-end.new.text
 unfolding node_text
 below_room c =
     let a = c.args in
-    room_rest (below a.question a.severity.now a.tail a.month a.chances.now a.left a.level) (appended_more c.put_entry-end.ensures c.put_value-end.ensures)
+    room_rest (below a.question a.severity.now a.tail a.month a.chances.now a.node.left a.node.level) (appended_more c.put_entry-end.ensures c.put_value-end.ensures)
     (c.put_value-end.auto.text ∙ c.put_entry-end.auto.buffer) c.requires.level_in_bounds
 
 written :
     (c : After-put_value-end) (b : List ℕ) (end : ℕ) → let a = c.args in
-    Appended c.put_value-end.new.text c.put_value-end.result (below a.question a.severity.now a.tail a.month a.chances.now a.left a.level) b end →
-    Appended a.text.now a.at (node_text a.question a.severity.now a.tail a.month a.chances.now a.left a.level) b end
+    Appended c.put_value-end.new.text c.put_value-end.result (below a.question a.severity.now a.tail a.month a.chances.now a.node.left a.node.level) b end →
+    Appended a.text.now a.at (node_text a.question a.severity.now a.tail a.month a.chances.now a.node.left a.node.level) b end
 unfolding node_text
 written c b end put = appended_more (appended_more c.put_entry-end.ensures c.put_value-end.ensures) put
 
 -- where there is nothing below
 bare :
     (c : After-put_value-end) → let a = c.args in
-    below a.question a.severity.now a.tail a.month a.chances.now a.left a.level ≡ [] →
-    Appended a.text.now a.at (node_text a.question a.severity.now a.tail a.month a.chances.now a.left a.level) c.put_value-end.new.text c.put_value-end.result
+    below a.question a.severity.now a.tail a.month a.chances.now a.node.left a.node.level ≡ [] →
+    Appended a.text.now a.at (node_text a.question a.severity.now a.tail a.month a.chances.now a.node.left a.node.level) c.put_value-end.new.text c.put_value-end.result
 bare c e = written c _ _ (appended_nothing _ _ _ e (below_room c))
 
 followed :
     (c : Else-not-node_allowed) → let a = c.args in
-    below a.question a.severity.now a.tail a.month a.chances.now a.left a.level ≡ branch_texts a.question a.severity.now a.tail a.month a.chances.now a.left a.level
+    below a.question a.severity.now a.tail a.month a.chances.now a.node.left a.node.level ≡ branch_texts a.question a.severity.now a.tail a.month a.chances.now a.node.left a.node.level
 followed c =
     let a = c.args in
-    below_allowed a.question a.severity.now a.tail a.month a.chances.now a.left a.level (node_allowed a.question a.month a.level) (sym c.node_allowed.ensures ∙ c.if-not-node_allowed.false)
+    below_allowed a.question a.severity.now a.tail a.month a.chances.now a.node.left a.node.level (node_allowed a.question a.month a.node.level) (sym c.node_allowed.ensures ∙ c.if-not-node_allowed.false)
 
 pub put_entry-end-requires : goal.put_entry-end-requires
 put_entry-end-requires c =
     let a = c.args in
-    room_first a.at (entry (ascii "month") (a.month ∷ [])) (value_text (ascii " level") a.question a.severity.now a.month a.chances.now a.left a.level)
+    room_first a.at (entry (ascii "month") (a.month ∷ [])) (value_text (ascii " level") a.question a.severity.now a.month a.chances.now a.node.left a.node.level)
     (first_room (goal.at.put_entry-end-requires c).Start)
 
 pub put_value-end-requires : goal.put_value-end-requires
@@ -71,7 +71,7 @@ put_value-end-requires c =
     record {
       terms = c.requires.terms;
       level_in_bounds =
-          room_rest (value_text (ascii " level") a.question a.severity.now a.month a.chances.now a.left a.level) c.put_entry-end.ensures c.put_entry-end.auto.buffer
+          room_rest (value_text (ascii " level") a.question a.severity.now a.month a.chances.now a.node.left a.node.level) c.put_entry-end.ensures c.put_entry-end.auto.buffer
           (first_room (goal.at.put_value-end-requires c).Start);
     }
 
@@ -80,13 +80,13 @@ returns-then-is_empty c =
     let a = c.args in
     let ended : length a.chances.now < 1 = search rules in
     bare (goal.at.returns-then-is_empty c).After-put_value-end
-    (below_last a.question a.severity.now a.tail a.month a.chances.now a.left a.level (node_allowed a.question a.month a.level) ended)
+    (below_last a.question a.severity.now a.tail a.month a.chances.now a.node.left a.node.level (node_allowed a.question a.month a.node.level) ended)
 
 pub returns-then-not-node_allowed : goal.returns-then-not-node_allowed
 returns-then-not-node_allowed c =
     let a = c.args in
     bare (goal.at.returns-then-not-node_allowed c).After-put_value-end
-    (below_forbidden a.question a.severity.now a.tail a.month a.chances.now a.left a.level (node_allowed a.question a.month a.level) (sym c.node_allowed.ensures ∙ c.if-not-node_allowed.true))
+    (below_forbidden a.question a.severity.now a.tail a.month a.chances.now a.node.left a.node.level (node_allowed a.question a.month a.node.level) (sym c.node_allowed.ensures ∙ c.if-not-node_allowed.true))
 
 pub put_branches-requires : goal.put_branches-requires
 put_branches-requires c =

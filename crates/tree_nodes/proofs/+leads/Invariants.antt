@@ -15,4 +15,4 @@ abbrev pub invariant-loop-x : goal.invariant-loop-x
 invariant-loop-x l =
     (i : ℕ) → i < l.x →
     claim_passes l.severity l.chance (onward l.question l.severity l.month l.chances l.target.left l.target.level)
-    (left_after ((rule_of l.question).after_claim l.fn.left)) l.level i ≡ false
+    (left_after ((rule_of l.question).after_claim l.left)) l.level i ≡ false

@@ -14,22 +14,22 @@ use Rattle.tree_text.proofs.put_reached.Goals as goal
 use Rattle.tree_text.proofs.put_reached.Goals.{After-leads, Then-leads}
 
 -- what was found is whether the node is reached
-found : (c : After-leads) → let a = c.args in c.leads.result ≡ reached a.question (small_plan a.opening a.chances.now a.severity.now a.tail) a.month a.left a.level
+found : (c : After-leads) → let a = c.args in c.leads.result ≡ reached a.question (small_plan a.opening a.chances.now a.severity.now a.tail) a.month a.node.left a.node.level
 unfolding reached
 found c =
     let a = c.args in
-    c.leads.ensures ∙ ap (λ (k : ℕ). leads a.question a.severity.now 0 (take a.month a.chances.now) a.left a.level k a.opening) c.claims_to_place-first.ensures
+    c.leads.ensures ∙ ap (λ (k : ℕ). leads a.question a.severity.now 0 (take a.month a.chances.now) a.node.left a.node.level k a.opening) c.claims_to_place.ensures
 
 -- the node that is reached
 node :
     (c : Then-leads) → let a = c.args in
-    c.leads.result ≡ reached a.question (small_plan a.opening a.chances.now a.severity.now a.tail) a.month a.left a.level →
-    node_if a.question (small_plan a.opening a.chances.now a.severity.now a.tail) a.month a.level a.left
-    ≡ node_text a.question a.severity.now a.tail a.month (take (length a.chances.now - a.month) (drop a.month a.chances.now)) a.left a.level
+    c.leads.result ≡ reached a.question (small_plan a.opening a.chances.now a.severity.now a.tail) a.month a.node.left a.node.level →
+    node_if a.question (small_plan a.opening a.chances.now a.severity.now a.tail) a.month a.node.level a.node.left
+    ≡ node_text a.question a.severity.now a.tail a.month (take (length a.chances.now - a.month) (drop a.month a.chances.now)) a.node.left a.node.level
 node c is =
     let a = c.args in
-    node_on a.question (small_plan a.opening a.chances.now a.severity.now a.tail) a.month a.level a.left (sym is ∙ c.if-leads.true)
-    ∙ ap (λ (Ps : List ℕ). node_text a.question a.severity.now a.tail a.month Ps a.left a.level) (sym (later_lent a.month a.chances.now))
+    node_on a.question (small_plan a.opening a.chances.now a.severity.now a.tail) a.month a.node.level a.node.left (sym is ∙ c.if-leads.true)
+    ∙ ap (λ (Ps : List ℕ). node_text a.question a.severity.now a.tail a.month Ps a.node.left a.node.level) (sym (later_lent a.month a.chances.now))
 
 pub slice_bounds-leads-end : goal.slice_bounds-leads-end
 slice_bounds-leads-end c = sym (length-take-le c.args.month c.args.chances.now c.requires.small_terms.ended)
@@ -56,7 +56,7 @@ put_node-requires c =
     let at = goal.at.put_node-requires c in
     let terms = c.requires.small_terms in
     record {
-      terms = rw (later_lent c.args.month c.args.chances.now) (node_terms terms c.args.level c.requires.level_bound);
+      terms = rw (later_lent c.args.month c.args.chances.now) (node_terms terms c.args.node.level c.requires.level_bound);
       month_bound = (omega (arith, terms.ended, terms.months_few), terms.weights_fit);
       level_in_bounds = omega (arith, c.requires.left_in_bounds, ap length (node at.Then-leads (found at.After-leads)));
     }
@@ -68,4 +68,4 @@ pub returns : goal.returns
 returns c =
     let a = c.args in
     appended_nothing _ a.text.now a.at
-    (node_off a.question (small_plan a.opening a.chances.now a.severity.now a.tail) a.month a.level a.left (sym (found (goal.at.returns c).After-leads) ∙ c.if-leads.false)) c.requires.left_in_bounds
+    (node_off a.question (small_plan a.opening a.chances.now a.severity.now a.tail) a.month a.node.level a.node.left (sym (found (goal.at.returns c).After-leads) ∙ c.if-leads.false)) c.requires.left_in_bounds

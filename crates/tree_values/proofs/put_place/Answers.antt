@@ -12,11 +12,11 @@ use Rattle.tree_values.proofs.put_place.Goals as goal
 use Rattle.tree_values.proofs.put_place.Goals.{Start, After-put_left-end}
 
 -- room for the two, and for the line of the value after them
-first_room : (c : Start) → let a = c.args in a.at + length (entry a.word.now (a.level ∷ []) ++ left_text a.question a.left) ≤ length a.text.now
+first_room : (c : Start) → let a = c.args in a.at + length (entry a.word.now (a.node.level ∷ []) ++ left_text a.question a.node.left) ≤ length a.text.now
 unfolding place_text
-first_room c = let a = c.args in room_first a.at (entry a.word.now (a.level ∷ []) ++ left_text a.question a.left) (value_line a.allowed a.bounds) c.requires
+first_room c = let a = c.args in room_first a.at (entry a.word.now (a.node.level ∷ []) ++ left_text a.question a.node.left) (value_line a.allowed a.bounds) c.requires
 
-first_written : (c : After-put_left-end) → let a = c.args in Appended a.text.now a.at (entry a.word.now (a.level ∷ []) ++ left_text a.question a.left) c.put_left-end.new.text c.put_left-end.result
+first_written : (c : After-put_left-end) → let a = c.args in Appended a.text.now a.at (entry a.word.now (a.node.level ∷ []) ++ left_text a.question a.node.left) c.put_left-end.new.text c.put_left-end.result
 first_written c = appended_more c.put_entry-end.ensures c.put_left-end.ensures
 
 after_left : (c : After-put_left-end) → let a = c.args in c.put_left-end.result + length (value_line a.allowed a.bounds) ≤ length c.put_left-end.new.text
@@ -26,19 +26,19 @@ after_left c = room_rest (value_line c.args.allowed c.args.bounds) (first_writte
 written :
     (c : After-put_left-end) (b : List ℕ) (end : ℕ) → let a = c.args in
     Appended c.put_left-end.new.text c.put_left-end.result (value_line a.allowed a.bounds) b end →
-    Appended a.text.now a.at (place_text a.word.now a.question a.left a.level a.allowed a.bounds) b end
+    Appended a.text.now a.at (place_text a.word.now a.question a.node.left a.node.level a.allowed a.bounds) b end
 unfolding place_text
 written c b end put = appended_more (first_written c) put
 
 pub put_entry-end-requires : goal.put_entry-end-requires
 put_entry-end-requires c =
     let a = c.args in
-    room_first a.at (entry a.word.now (a.level ∷ [])) (left_text a.question a.left) (first_room (goal.at.put_entry-end-requires c).Start)
+    room_first a.at (entry a.word.now (a.node.level ∷ [])) (left_text a.question a.node.left) (first_room (goal.at.put_entry-end-requires c).Start)
 
 pub put_left-end-requires : goal.put_left-end-requires
 put_left-end-requires c =
     let a = c.args in
-    room_rest (left_text a.question a.left) c.put_entry-end.ensures c.put_entry-end.auto.buffer (first_room (goal.at.put_left-end-requires c).Start)
+    room_rest (left_text a.question a.node.left) c.put_entry-end.ensures c.put_entry-end.auto.buffer (first_room (goal.at.put_left-end-requires c).Start)
 
 pub put_line-requires : goal.put_line-requires
 put_line-requires c =

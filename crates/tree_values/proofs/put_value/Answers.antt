@@ -5,9 +5,9 @@ use Rattle.tree_values.proofs.put_value.Goals as goal
 pub put_place-requires : goal.put_place-requires
 unfolding value_text
 put_place-requires c =
-    rw (c.node_allowed.ensures, c.bounds_of-bounds.ensures) c.requires.level_in_bounds
+    rw (c.node_allowed-allowed.ensures, c.bounds_of-bounds.ensures) c.requires.level_in_bounds
 
 pub returns : goal.returns
 unfolding value_text
 returns c =
-    rw (← c.node_allowed.ensures, ← c.bounds_of-bounds.ensures) c.put_place.ensures
+    rw (← c.node_allowed-allowed.ensures, ← c.bounds_of-bounds.ensures) c.put_place.ensures
