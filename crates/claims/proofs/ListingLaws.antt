@@ -14,6 +14,7 @@ use borrow.Author.Tests.{leb-false, le-leb, lt-leb, lt-ltb, le-ltb}
 use lib.ListN.{length, get_or, take, drop, set, length-append, length-set, length-take, length-drop}
 use lib.Seq.{take_all, take-suc-set, get_or-take}
 use Rattle.model.specs.Limits.{max_sizes}
+use Rattle.model.specs.Sums.{total}
 use Rattle.model.specs.Plan.{nth}
 use Rattle.model.specs.FilledSizes.{filled_sizes}
 use Rattle.model.proofs.SumLaws.{below_or_not}
@@ -200,6 +201,13 @@ listing_take F sizes dense own o h =
 
     agree : (n : ℕ) → n ≤ own → filled_sizes F n ≡ filled_sizes (take own F) n
     agree n l = filled_agree F (take own F) n (λ i m. sym (same i (omega arith)))
+
+-- a shorter table weighs no more
+pub total_take_le : (n : ℕ) (F : List ℕ) → total (take n F) ≤ total F
+unfolding total
+total_take_le zero F = zero-le
+total_take_le (suc n) [] = zero-le
+total_take_le (suc n) (f ∷ F) = omega (arith, total_take_le n F)
 
 -- The list from `first` on serves every range up to `limit`.
 pub record ListedFrom (F sizes : List ℕ) (dense limit first : ℕ) : Type 0 where

@@ -3,3 +3,4 @@
 
 pub mod sizes;
 pub mod sum;
+pub mod table;

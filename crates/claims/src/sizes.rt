@@ -1,9 +1,12 @@
 // The sizes of a table that are not empty. A question lists them once.
 ghost use Rattle.std.specs.Prelude.{◌≡◌, ◌++◌, ◌≤◌, length, take, drop};
 ghost use Rattle.model.specs.Limits.{max_sizes};
+ghost use Rattle.model.specs.Scale.{S};
+ghost use Rattle.model.specs.Sums.{total};
 ghost use Rattle.model.specs.FilledSizes.{filled_sizes};
 ghost use Rattle.claims.specs.Listing.{gapless, in_range, Listing};
 
+use crate::table::ListedTable;
 use model::limits;
 
 // How many sizes are filled from size 1 on before the first empty one.
@@ -20,6 +23,22 @@ pub struct FilledSizes {
     pub sizes: [usize; limits::SIZES],
     pub count: usize,
     pub dense: usize,
+}
+
+impl FilledSizes {
+    // The table that they are the sizes of, with the list.
+    pub fn table<'a>(&'a self, severity: &'a [u32]) -> ListedTable<'a>
+        requires count_fits { self.now.count ≤ length self.now.sizes }
+        requires listing { Listing severity.now (take self.now.count self.now.sizes) self.now.dense }
+        requires weights_fit { total severity.now ≤ S }
+        ensures { result.severity.now ≡ severity.now }
+    {
+        ListedTable {
+            severity,
+            sizes: &self.sizes[..self.count],
+            dense: self.dense,
+        }
+    }
 }
 
 // The filled sizes above `dense`.

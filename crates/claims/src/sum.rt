@@ -75,6 +75,7 @@ fn dense_sum(severity: &[u32], after: &[u32], most: usize) -> ProductSum
 
 // The claim sum over the values that claims lead to, which lie one after the other, the last at level 1. Of the
 // sizes 1 to `dense` none is empty, so that those need no list; `sizes` are the filled sizes in range above them.
+// No `ListedTable`: that asks for the list of every range, and `lists_range` for this one.
 pub fn claim_sum(severity: &[u32], sizes: &[usize], dense: usize, after: &[u32]) -> ClaimSum
     requires parts { Parts after.now }
     requires severity_bound { total severity.now ≤ S }

@@ -2,8 +2,8 @@
 use mathlib.Core.Path.{◌≡◌, refl, sym, ◌∙◌, ap, ap₂, fun_ext}
 use mathlib.Core.Bool.{Bool, true, false}
 use mathlib.Core.Option.{none, some}
-use mathlib.Core.List.{List, [], ◌∷◌}
-use Prim.Native.Nat.{ℕ, zero, suc, ◌+◌, ◌*◌, ◌-◌, ◌≤◌, zero-le, ◌<◌}
+use mathlib.Core.List.{List}
+use Prim.Native.Nat.{ℕ, suc, ◌+◌, ◌*◌, ◌-◌, ◌≤◌, zero-le, ◌<◌}
 use native.Mathlib.Nat.{le_refl, suc-mul, sub-zero}
 use native.Mathlib.Numerals.{add-one}
 use native.Mathlib.Omega.{arith}
@@ -11,7 +11,6 @@ use borrow.Author.Count.{below_more}
 use lib.ListN.{length, take, drop}
 use lib.Seq.{take-length, get_or-drop}
 use Rattle.model.specs.declared.Rounding.{Rounding}
-use Rattle.model.specs.Sums.{total}
 use Rattle.model.specs.MonthRule.{Row, exact_month, month, claimed_row}
 use Rattle.model.proofs.Month.{claim_sum_none, claim_sum_zero}
 use Rattle.claims.specs.Values.{from_top, Parts}
@@ -46,12 +45,6 @@ pub own_sizes_le : (tallied : Bool) (sizes : ℕ) → own_sizes tallied sizes �
 unfolding own_sizes
 own_sizes_le true sizes = zero-le
 own_sizes_le false sizes = le_refl sizes
-
-pub total_take_le : (n : ℕ) (F : List ℕ) → total (take n F) ≤ total F
-unfolding total
-total_take_le zero F = zero-le
-total_take_le (suc n) [] = zero-le
-total_take_le (suc n) (f ∷ F) = omega (arith, total_take_le n F)
 
 -- the rows before a month by the claims left, from those after it
 abbrev pub rows_before : Rounding → ℕ → List ℕ → ℕ → Bool → (ℕ → Row) → ℕ → Row
@@ -150,11 +143,11 @@ module _ (last width : ℕ) (tallied : Bool) (income : ℕ) (some_income : 0 < i
   -- the row with no claims left, the last one
   pub going_back_end :
       (rows : List ℕ) (j : ℕ) → j ≡ last → GoingBack last width live new old rows j →
-      (own : ℕ) → own ≡ own_sizes tallied (length F) →
+      (G : List ℕ) → G ≡ take (own_sizes tallied (length F)) F →
       (rows' : List ℕ) → length rows' ≡ length rows → Parts rows' →
-      Replaced (last * width) live (row_before round (take own F) P (last * width) (last * width) top live rows) rows rows' →
+      Replaced (last * width) live (row_before round G P (last * width) (last * width) top live rows) rows rows' →
       GoingBack last width live new old rows' (last + 1)
-  going_back_end rows j all h₀ own eo rows' n parts row =
+  going_back_end rows j all h₀ G eo rows' n parts row =
       going_back_row last width live (omega arith) new old rows rows' last h n parts (replaced_by (last * width) live _ _ rows rows' same row)
     where
       h : GoingBack last width live new old rows last
@@ -166,7 +159,7 @@ module _ (last width : ℕ) (tallied : Bool) (income : ℕ) (some_income : 0 < i
       own_row : rows_left last width top old 0 ≡ from_top top (drop (last * width) old)
       own_row = rw (sub-zero last)
 
-      same : (p : ℕ) → row_before round (take own F) P (last * width) (last * width) top live rows p ≡ new (last - last) (live - 1 - p)
+      same : (p : ℕ) → row_before round G P (last * width) (last * width) top live rows p ≡ new (last - last) (live - 1 - p)
       same p =
           rw (below, none, eo, row_same top (last * width) (last * width) rows old (omega arith) h.rest)
           (rw (← own_row) (month_own round income F P (rows_left last width top old 0) (rows_left last width top old) tallied (live - 1 - p)))

@@ -1,20 +1,11 @@
 -- Rows of values in memory, and the words of the contracts on them.
 use Rattle.std.specs.Prelude.{ℕ, zero, suc, ◌+◌, ◌<◌, ◌≤◌, ◌≡◌, Bool, ◌&&◌, cond, List, leb, ltb, get_or}
 use Rattle.std.proofs.Math.Option.{Option, none, some}
-use Rattle.model.specs.Scale.{S}
-use Rattle.model.specs.Sums.{total}
 use Rattle.model.specs.MonthRule.{Row}
-use Rattle.claims.specs.Listing.{Listing}
 
 -- a list as a row: the index is the place
 abbrev pub at : List ℕ → Row
 at xs i = get_or xs i 0
-
--- What a month takes beside its rows: weights that add up to at most S, the sizes of the table that are not empty, and a chance.
-pub record MonthTerms (severity sizes : List ℕ) (dense chance : ℕ) : Type 0 where
-  pub weights_fit : total severity ≤ S
-  pub listing : Listing severity sizes dense
-  pub chance_fits : chance ≤ S
 
 -- So many places from `from` on hold new values, and all others what they held.
 pub record Replaced (from count : ℕ) (new : Row) (before after : List ℕ) : Type 0 where

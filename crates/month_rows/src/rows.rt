@@ -1,13 +1,15 @@
 // Rows of values in lent memory. The place in a row is what has been paid in claims: a month without a claim keeps the place, a claim of size x
 // leads x places on. So a month reads a place and those beyond it, and rewrites a row in place going upward.
 ghost use Rattle.std.specs.Prelude.{◌≡◌, ℕ, ◌+◌, ◌-◌, ◌<◌, ◌≤◌, length, drop};
+ghost use Rattle.model.specs.Scale.{S};
 ghost use Rattle.model.specs.MonthRule.{month, kept, claimed_row};
 ghost use Rattle.claims.specs.Values.{from_top, Parts};
-ghost use Rattle.month_rows.specs.Rows.{at, MonthTerms, Replaced, between, own_sizes, after_claim_by};
+ghost use Rattle.month_rows.specs.Rows.{at, Replaced, between, own_sizes, after_claim_by};
 ghost use Rattle.month_rows.specs.Shapes.{row_with, values_in, RowsIn, TopIn, allowed_places};
 
 use claims::sizes::first_within;
 use claims::sum::claim_sum;
+use claims::table::ListedTable;
 use model::Rounding;
 use rounding::month_value;
 
@@ -40,17 +42,15 @@ pub fn row_back(
     claimed: usize,
     top: usize,
     live: usize,
-    severity: &[u32],
-    sizes: &[usize],
-    dense: usize,
+    table: &ListedTable,
     chance: u32,
     round: Rounding,
 )
     requires quiet_le_claimed { (quiet ≤ claimed) × (live ≤ top) × (claimed + top ≤ length rows.old) }
     requires parts_2 { Parts rows.old }
-    requires month_terms { MonthTerms severity.now sizes.now dense chance }
+    requires chance_fits { chance ≤ S }
     ensures rewritten { Replaced quiet live
-        (λ i. month round (top + 1 - live) severity.now chance (from_top top (drop quiet rows.old)) (from_top top (drop claimed rows.old)) (live - 1 - i))
+        (λ i. month round (top + 1 - live) table.now.severity.now chance (from_top top (drop quiet rows.old)) (from_top top (drop claimed rows.old)) (live - 1 - i))
         rows.old rows.new }
     ensures parts { Parts rows.new }
 {
@@ -58,9 +58,14 @@ pub fn row_back(
     let mut first = 0;
     for i in 0..live {
         let next = claimed + i + 1;
-        let most = (end - next).min(severity.len());
-        first = first_within(sizes, first, most);
-        let claims = claim_sum(severity, &sizes[first..], dense, &rows[next..end]);
+        let most = (end - next).min(table.severity.len());
+        first = first_within(table.sizes, first, most);
+        let claims = claim_sum(
+            table.severity,
+            &table.sizes[first..],
+            table.dense,
+            &rows[next..end],
+        );
         let place = quiet + i;
         rows[place] = month_value(
             chance,
@@ -111,18 +116,16 @@ pub fn all_rows_back(
     rows: &mut [u32],
     shape: Shape,
     top: usize,
-    severity: &[u32],
-    sizes: &[usize],
-    dense: usize,
+    table: &ListedTable,
     chance: u32,
     round: Rounding,
 )
     requires rows_in { RowsIn shape rows.old }
     requires top_in { TopIn shape top }
-    requires month_terms { MonthTerms severity.now sizes.now dense chance }
+    requires chance_fits { chance ≤ S }
     ensures rewritten { (k : ℕ) → k < shape.rows → (s : ℕ) → s + shape.income ≤ top →
         values_in shape (top - shape.income) rows.new k s
-        ≡ month round shape.income severity.now chance (values_in shape top rows.old k)
+        ≡ month round shape.income table.now.severity.now chance (values_in shape top rows.old k)
         (claimed_row (values_in shape top rows.old) (after_claim_by shape.tallied k)) s }
     ensures beyond { (k : ℕ) → k < shape.rows → (i : ℕ) → top < i + shape.income → i < shape.width →
         at (row_with shape rows.new k) i ≡ at (row_with shape rows.old k) i }
@@ -136,22 +139,9 @@ pub fn all_rows_back(
     for j in 0..last {
         let start = j * width;
         let next = start + width;
-        row_back(
-            rows, start, next, top, live, severity, sizes, dense, chance, round,
-        );
+        row_back(rows, start, next, top, live, table, chance, round);
     }
     let start = last * width;
-    let own = own_sizes(tallied, severity.len());
-    row_back(
-        rows,
-        start,
-        start,
-        top,
-        live,
-        &severity[..own],
-        sizes,
-        dense,
-        chance,
-        round,
-    );
+    let own = table.up_to(own_sizes(tallied, table.severity.len()));
+    row_back(rows, start, start, top, live, &own, chance, round);
 }

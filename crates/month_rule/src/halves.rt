@@ -5,12 +5,12 @@ ghost use Rattle.model.specs.declared.Rounding.TheVariants.{Down, Up};
 ghost use Rattle.model.specs.Levels.{largest_level};
 ghost use Rattle.model.specs.MonthRule.{all_placed};
 ghost use Rattle.claims.specs.Values.{Parts};
-ghost use Rattle.claims.specs.Listing.{Listing};
 ghost use Rattle.month_rule.specs.Months.{PlanTerms, HalvesIn, TakenBack};
 ghost use Rattle.month_rows.specs.Shapes.{rows_size, values_in};
 
 use crate::months::all_months_back;
 use claims::sizes::list_sizes;
+use claims::table::ListedTable;
 use model::{Bounds, Rounding};
 use month_rows::rows::Shape;
 
@@ -45,16 +45,13 @@ fn listed_halves_back(
     shape: Shape,
     opening: usize,
     chances: &[u32],
-    severity: &[u32],
-    sizes: &[usize],
-    dense: usize,
+    table: &ListedTable,
 )
     requires halves_in { HalvesIn shape halves.old }
     requires chances_bound { largest_level shape.income opening (length chances.now) < shape.width }
-    requires plan_terms { PlanTerms severity.now chances.now }
-    requires listing { Listing severity.now sizes.now dense }
-    ensures lower { TakenBack Down severity.now shape opening chances.now (take (rows_size shape) halves.old) (take (rows_size shape) halves.new) }
-    ensures upper { TakenBack Up severity.now shape opening chances.now (drop (rows_size shape) halves.old) (drop (rows_size shape) halves.new) }
+    requires chances_fit { Parts chances.now }
+    ensures lower { TakenBack Down table.now.severity.now shape opening chances.now (take (rows_size shape) halves.old) (take (rows_size shape) halves.new) }
+    ensures upper { TakenBack Up table.now.severity.now shape opening chances.now (drop (rows_size shape) halves.old) (drop (rows_size shape) halves.new) }
 {
     let half = shape.rows * shape.width;
     all_months_back(
@@ -62,9 +59,7 @@ fn listed_halves_back(
         shape,
         opening,
         chances,
-        severity,
-        sizes,
-        dense,
+        table,
         Rounding::Down,
     );
     all_months_back(
@@ -72,9 +67,7 @@ fn listed_halves_back(
         shape,
         opening,
         chances,
-        severity,
-        sizes,
-        dense,
+        table,
         Rounding::Up,
     );
 }
@@ -94,17 +87,8 @@ pub fn halves_back(
     ensures upper { TakenBack Up severity.now shape opening chances.now (drop (rows_size shape) halves.old) (drop (rows_size shape) halves.new) }
 {
     let filled = list_sizes(severity);
-    let sizes = filled.sizes;
-    let count = filled.count;
-    listed_halves_back(
-        halves,
-        shape,
-        opening,
-        chances,
-        severity,
-        &sizes[..count],
-        filled.dense,
-    );
+    let table = filled.table(severity);
+    listed_halves_back(halves, shape, opening, chances, &table);
 }
 
 // The bounds that the halves hold at their first places, with all of them 0 again.

@@ -3,13 +3,14 @@
 ghost use Rattle.std.specs.Prelude.{◌≡◌, ◌*◌, ◌<◌, ◌≤◌, length, replicate};
 ghost use Rattle.model.specs.Scale.{S};
 ghost use Rattle.model.specs.Levels.{row_levels};
-ghost use Rattle.claims.specs.Listing.{Listing};
+ghost use Rattle.claims.specs.Values.{Parts};
 ghost use Rattle.month_rule.specs.Months.{PlanTerms};
 ghost use Rattle.opening_search.specs.Answers.{least_result};
 ghost use Rattle.opening_search.specs.Search.{search_answer};
 
 use crate::LeastOpening;
 use claims::sizes::list_sizes;
+use claims::table::ListedTable;
 use model::{Bounds, Refusal};
 use target_rows::rows::{least_lower, upper_at};
 
@@ -19,15 +20,13 @@ fn listed_search(
     opening: usize,
     income: usize,
     chances: &[u32],
-    severity: &[u32],
-    sizes: &[usize],
-    dense: usize,
+    table: &ListedTable,
     target: u32,
 ) -> Result<LeastOpening, Refusal>
     requires income_nonzero { (0 < income) × (length workspace.old ≡ 2 * row_levels income opening (length chances.now)) }
-    requires plan_terms { PlanTerms severity.now chances.now × Listing severity.now sizes.now dense }
+    requires chances_fit { Parts chances.now }
     requires target_nonzero { (0 < target) × (target ≤ S) }
-    ensures answered { least_result result ≡ search_answer income severity.now opening chances.now target }
+    ensures answered { least_result result ≡ search_answer income table.now.severity.now opening chances.now target }
     ensures cleared { workspace.new ≡ replicate (length workspace.old) 0 }
 {
     let half = opening + income * chances.len() + 1;
@@ -37,23 +36,13 @@ fn listed_search(
         opening,
         income,
         chances,
-        severity,
-        sizes,
-        dense,
+        table,
         target,
     ) else {
         return Err(Refusal::Unreached);
     };
     let least = found.opening;
-    let upper = upper_at(
-        &mut workspace[half..],
-        least,
-        income,
-        chances,
-        severity,
-        sizes,
-        dense,
-    );
+    let upper = upper_at(&mut workspace[half..], least, income, chances, table);
     let lower = found.lower;
     Ok(LeastOpening {
         opening: least,
@@ -77,16 +66,6 @@ pub fn search(
     ensures cleared { workspace.new ≡ replicate (length workspace.old) 0 }
 {
     let filled = list_sizes(severity);
-    let sizes = filled.sizes;
-    let count = filled.count;
-    listed_search(
-        workspace,
-        opening,
-        income,
-        chances,
-        severity,
-        &sizes[..count],
-        filled.dense,
-        target,
-    )
+    let table = filled.table(severity);
+    listed_search(workspace, opening, income, chances, &table, target)
 }

@@ -14,6 +14,7 @@ use Rattle.model.specs.declared.Rounding.{Rounding}
 use Rattle.model.specs.declared.Rounding.TheVariants.{Down}
 use Rattle.model.specs.declared.Question.TheVariants.{Survive}
 use Rattle.model.specs.Scale.{S}
+use Rattle.model.specs.Sums.{total}
 use Rattle.model.specs.Levels.{largest_level}
 use Rattle.model.specs.MonthRule.{month, month_back, kept, values, rule_of, last_of, claims_of, all_placed}
 use Rattle.model.proofs.LevelLaws.{level_start, level_later, reachable}
@@ -22,7 +23,7 @@ use Rattle.model.proofs.Values.{values_never_above, claims_alike}
 use Rattle.claims.specs.Values.{from_top, Parts}
 use Rattle.month_rows.specs.declared.rows.Shape.{Shape}
 use Rattle.month_rows.specs.Rows.{at}
-use Rattle.month_rule.specs.Months.{PlanTerms, rule_by, TakenBack}
+use Rattle.month_rule.specs.Months.{rule_by, TakenBack}
 use Rattle.month_rows.specs.Shapes.{row_with, values_in, allowed_places, RowsIn, TopIn}
 use Rattle.month_rule.proofs.HalfLaws.{parts_replicate}
 use Rattle.month_rule.proofs.AllMonths.{taken_back_none, taken_back_more}
@@ -206,13 +207,13 @@ module _ (income : ℕ) (F : List ℕ) (opening : ℕ) (chances : List ℕ) (tar
 
 -- Where the work is given up no opening reaches the target: "no level reaches the target any more".
 pub none_reached :
-    (income : ℕ) (F : List ℕ) (opening : ℕ) (chances : List ℕ) (target t : ℕ) → PlanTerms F chances → 0 < target → 0 < t → GivenUp income F opening chances target t →
+    (income : ℕ) (F : List ℕ) (opening : ℕ) (chances : List ℕ) (target t : ℕ) → total F ≤ S → Parts chances → 0 < target → 0 < t → GivenUp income F opening chances target t →
     Below target opening (survival_row Down income F chances)
 unfolding Below claims_of
-none_reached income F opening chances target t terms above some given s l =
+none_reached income F opening chances target t weights chances_fit above some given s l =
     omega (
       arith,
-      values_never_above Down income F terms.weights_fit (rule_of Survive) (last_of Survive) chances terms.chances_fit.each opening (target - 1) 0 (t - 1) zero-le
+      values_never_above Down income F weights (rule_of Survive) (last_of Survive) chances chances_fit.each opening (target - 1) 0 (t - 1) zero-le
           (λ k r m. rw (claims_alike (month Down income F) (drop (t - 1) chances) k) (omega (arith, given.below some r m)))
           (claims_of Survive) s (rw (level_start income opening) l),
     )

@@ -3,8 +3,7 @@ use Rattle.std.specs.Prelude.{ℕ, ◌+◌, ◌-◌, ◌<◌, ◌≤◌, cond, L
 use Rattle.model.specs.declared.Rounding.TheVariants.{Down}
 use Rattle.model.specs.Levels.{largest_level}
 use Rattle.model.specs.MonthRule.{Row}
-use Rattle.claims.specs.Listing.{Listing}
-use Rattle.month_rule.specs.Months.{PlanTerms}
+use Rattle.claims.specs.Values.{Parts}
 use Rattle.questions.specs.Survival.{survival_row}
 use Rattle.target_rows.specs.declared.rows.Found.{Found}
 use Rattle.target_rows.specs.Least.{least}
@@ -30,11 +29,10 @@ abbrev pub given_month : Option ℕ → ℕ
 given_month None = 0
 given_month (Some t) = t + 1
 
--- What a walk back through the months takes beside its row, of so many numbers: the plan's terms, its filled sizes as they are listed, an income, and an opening
--- from which no month leads past the row.
-pub record Walk (size income opening : ℕ) (chances severity sizes : List ℕ) (dense : ℕ) : Type 0 where
-  pub terms : PlanTerms severity chances
-  pub listing : Listing severity sizes dense
+-- What a walk back through the months takes beside its row, of so many numbers, and the table: the plan's chances, an income, and an opening from which no
+-- month leads past the row.
+pub record Walk (size income opening : ℕ) (chances : List ℕ) : Type 0 where
+  pub chances_fit : Parts chances
   pub earns : 0 < income
   pub inside : largest_level income opening (length chances) < size
 

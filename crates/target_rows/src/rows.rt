@@ -11,6 +11,7 @@ ghost use Rattle.questions.specs.Survival.{survival_row};
 ghost use Rattle.target_rows.specs.Least.{least};
 ghost use Rattle.target_rows.specs.Rows.{Reaches, GivenUp, Walk, given_month, least_found, found_of};
 
+use claims::table::ListedTable;
 use model::{Question, Rounding};
 use month_rows::rows::value_at;
 use month_rule::months::{all_months_back, month_back};
@@ -23,15 +24,13 @@ fn lower_back(
     opening: usize,
     income: usize,
     chances: &[u32],
-    severity: &[u32],
-    sizes: &[usize],
-    dense: usize,
+    table: &ListedTable,
     target: u32,
 ) -> Option<usize>
-    requires walk { Walk (length row.old) income opening chances.now severity.now sizes.now dense }
+    requires walk { Walk (length row.old) income opening chances.now }
     requires target_nonzero { (0 < target) × (target ≤ S) }
-    ensures given { GivenUp income severity.now opening chances.now target (given_month result) }
-    ensures back { TakenBack Down severity.now (shape_of Survive (length row.old) income) (largest_level income opening (given_month result - 1)) (drop (given_month result - 1) chances.now)
+    ensures given { GivenUp income table.now.severity.now opening chances.now target (given_month result) }
+    ensures back { TakenBack Down table.now.severity.now (shape_of Survive (length row.old) income) (largest_level income opening (given_month result - 1)) (drop (given_month result - 1) chances.now)
         (replicate (length row.old) S) row.new }
 {
     let shape = shape_of(Question::Survive, row.len(), income);
@@ -40,16 +39,7 @@ fn lower_back(
     'months: for month in (0..chances.len()).rev() {
         let top = opening + income * (month + 1);
         let last = top - income;
-        month_back(
-            row,
-            shape,
-            top,
-            severity,
-            sizes,
-            dense,
-            chances[month],
-            Rounding::Down,
-        );
+        month_back(row, shape, top, table, chances[month], Rounding::Down);
         for place in 0..last + 1 {
             if target <= row[place] {
                 break;
@@ -105,20 +95,16 @@ pub fn least_lower(
     opening: usize,
     income: usize,
     chances: &[u32],
-    severity: &[u32],
-    sizes: &[usize],
-    dense: usize,
+    table: &ListedTable,
     target: u32,
 ) -> Option<Found>
-    requires walk { Walk (length row.old) income opening chances.now severity.now sizes.now dense }
+    requires walk { Walk (length row.old) income opening chances.now }
     requires target_nonzero { (0 < target) × (target ≤ S) }
-    ensures found { found_of opening result ≡ least_found income severity.now opening chances.now target }
+    ensures found { found_of opening result ≡ least_found income table.now.severity.now opening chances.now target }
     ensures inside { IfSome result (λ f. f.opening ≤ opening) }
     ensures cleared { row.new ≡ replicate (length row.old) 0 }
 {
-    let given_up = lower_back(
-        row, opening, income, chances, severity, sizes, dense, target,
-    );
+    let given_up = lower_back(row, opening, income, chances, table, target);
     if given_up.is_some() {
         row.fill(0);
         return None;
@@ -134,26 +120,15 @@ pub fn upper_at(
     opening: usize,
     income: usize,
     chances: &[u32],
-    severity: &[u32],
-    sizes: &[usize],
-    dense: usize,
+    table: &ListedTable,
 ) -> u32
-    requires { Walk (length row.old) income opening chances.now severity.now sizes.now dense }
-    ensures upper { result ≡ survival_row Up income severity.now chances.now opening }
+    requires { Walk (length row.old) income opening chances.now }
+    ensures upper { result ≡ survival_row Up income table.now.severity.now chances.now opening }
     ensures cleared { row.new ≡ replicate (length row.old) 0 }
 {
     let shape = shape_of(Question::Survive, row.len(), income);
     row.fill(model::SCALE);
-    all_months_back(
-        row,
-        shape,
-        opening,
-        chances,
-        severity,
-        sizes,
-        dense,
-        Rounding::Up,
-    );
+    all_months_back(row, shape, opening, chances, table, Rounding::Up);
     let upper = value_at(row, opening, opening);
     row.fill(0);
     upper

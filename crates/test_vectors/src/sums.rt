@@ -1,11 +1,12 @@
 // The claim sum on its own, with its line: over the weights of a plan, with the first `count` of its chances as the values that claims lead to.
 ghost use Rattle.model.specs.Refusal.{Accepted};
-ghost use Rattle.claims.specs.Listing.{Listing};
+ghost use Rattle.claims.specs.Values.{Parts};
 ghost use Rattle.month_rule.specs.Months.{PlanTerms};
 
 use crate::text;
 use claims::sizes::{first_within, list_sizes};
 use claims::sum::claim_sum;
+use claims::table::ListedTable;
 use model::Head;
 use plan::check_plan;
 
@@ -30,17 +31,14 @@ fn list(severity: &[u32], after: &[u32])
     requires { PlanTerms severity.now after.now }
 {
     let filled = list_sizes(severity);
-    let sizes = filled.sizes;
-    let count = filled.count;
-    sum(severity, &sizes[..count], filled.dense, after);
+    sum(&filled.table(severity), after);
 }
 
-fn sum(severity: &[u32], sizes: &[usize], dense: usize, after: &[u32])
-    requires plan_terms { PlanTerms severity.now after.now }
-    requires listing { Listing severity.now sizes.now dense }
+fn sum(table: &ListedTable, after: &[u32])
+    requires { Parts after.now }
 {
-    let most = after.len().min(severity.len());
-    let first = first_within(sizes, 0, most);
-    let claims = claim_sum(severity, &sizes[first..], dense, after);
+    let most = after.len().min(table.severity.len());
+    let first = first_within(table.sizes, 0, most);
+    let claims = claim_sum(table.severity, &table.sizes[first..], table.dense, after);
     text::answered(&[claims.quotient, claims.remainder, claims.products as u64]);
 }

@@ -7,5 +7,5 @@ use Rattle.month_rows.proofs.rows.all_rows_back.Given as goal
 abbrev pub invariant-loop-j : goal.invariant-loop-j
 invariant-loop-j l = record {
   levels : l.live + l.income ≡ l.top + 1;
-  back : GoingBack l.last l.width l.live (rows_before l.round l.income l.severity l.chance l.tallied (rows_left l.last l.width l.top l.initial.rows)) l.initial.rows l.rows l.j;
+  back : GoingBack l.last l.width l.live (rows_before l.round l.income l.table.severity.now l.chance l.tallied (rows_left l.last l.width l.top l.initial.rows)) l.initial.rows l.rows l.j;
 }

@@ -8,6 +8,6 @@ use Rattle.month_rows.proofs.rows.row_back.Given as goal
 
 abbrev pub invariant-loop-i : goal.invariant-loop-i
 invariant-loop-i l = record {
-  back : Rewriting l.initial.rows l.quiet (row_before l.round l.severity l.chance l.quiet l.claimed l.top l.live l.initial.rows) l.rows l.i;
-  listed : ListedFrom l.severity l.sizes l.dense (min (l.top - l.i) (length l.severity)) l.first;
+  back : Rewriting l.initial.rows l.quiet (row_before l.round l.table.severity.now l.chance l.quiet l.claimed l.top l.live l.initial.rows) l.rows l.i;
+  listed : ListedFrom l.table.severity.now l.table.sizes.now l.table.dense (min (l.top - l.i) (length l.table.severity.now)) l.first;
 }

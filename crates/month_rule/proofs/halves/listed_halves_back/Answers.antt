@@ -17,8 +17,7 @@ pub all_months_back-requires : goal.all_months_back-requires
 all_months_back-requires c = record {
   rows_in = lower_rows c.args.shape c.args.halves.now c.requires.halves_in;
   chances_bound = c.requires.chances_bound;
-  plan_terms = c.requires.plan_terms;
-  listing = c.requires.listing;
+  chances_fit = c.requires.chances_fit;
 }
 
 -- the second half as it is lent
@@ -30,8 +29,7 @@ pub all_months_back-requires-2 : goal.all_months_back-requires-2
 all_months_back-requires-2 c = record {
   rows_in = rw (second (goal.at.all_months_back-requires-2 c).After-all_months_back) (upper_rows c.args.shape c.args.halves.now c.requires.halves_in);
   chances_bound = c.requires.chances_bound;
-  plan_terms = c.requires.plan_terms;
-  listing = c.requires.listing;
+  chances_fit = c.requires.chances_fit;
 }
 
 pub returns : goal.returns

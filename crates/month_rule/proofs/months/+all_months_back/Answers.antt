@@ -7,8 +7,6 @@ use lib.Seq.{length-take-le}
 use Rattle.model.specs.Levels.{largest_level}
 use Rattle.model.proofs.LevelLaws.{level_next, level_from}
 use Rattle.model.proofs.Values.{no_chances, first_and_rest}
-use Rattle.month_rows.specs.Rows.{MonthTerms}
-use Rattle.month_rule.specs.Months.{PlanTerms}
 use Rattle.month_rows.proofs.RowLaws.{parts_part}
 use Rattle.month_rows.proofs.ManyRows.{row_fits, rows_in_again}
 use Rattle.month_rule.proofs.AllMonths.{taken_back_none, taken_back_more}
@@ -37,7 +35,7 @@ fits t c =
 
 pub returns-then-chances-lt1 : goal.returns-then-chances-lt1
 returns-then-chances-lt1 t c =
-    let a = c.args in record { values = rw (no_chances a.chances.now (omega arith)) (taken_back_none a.round a.severity.now a.shape a.opening a.rows.now); parts = c.requires.rows_in.parts }
+    let a = c.args in record { values = rw (no_chances a.chances.now (omega arith)) (taken_back_none a.round a.table.now.severity.now a.shape a.opening a.rows.now); parts = c.requires.rows_in.parts }
 
 pub overflow_add-after : goal.overflow_add-after
 overflow_add-after t c = omega (arith, (fits t (goal.at.overflow_add-after t c).Else-chances-lt1).first, (fits t (goal.at.overflow_add-after t c).Else-chances-lt1).row)
@@ -47,18 +45,16 @@ all_months_back-requires t c =
     let a = c.args in
     let n = length a.chances.now in
     let fewer : length (take (n - 1) (drop 1 a.chances.now)) ≡ n - 1 = length-take-le (n - 1) (drop 1 a.chances.now) (omega (arith, length-drop 1 a.chances.now)) in
-    let terms : PlanTerms a.severity.now (take (n - 1) (drop 1 a.chances.now)) =
-    record { weights_fit = c.requires.plan_terms.weights_fit; sizes_fit = c.requires.plan_terms.sizes_fit; chances_fit = parts_part a.chances.now 1 (n - 1) c.requires.plan_terms.chances_fit } in (omega (arith, fewer, (fits t (goal.at.all_months_back-requires t c).Else-chances-lt1).some-month), (c.requires.rows_in, (rw fewer (fits t (goal.at.all_months_back-requires t c).Else-chances-lt1).levels, (terms, c.requires.listing))))
+    (omega (arith, fewer, (fits t (goal.at.all_months_back-requires t c).Else-chances-lt1).some-month), (c.requires.rows_in, (rw fewer (fits t (goal.at.all_months_back-requires t c).Else-chances-lt1).levels, parts_part a.chances.now 1 (n - 1) c.requires.chances_fit)))
 
 pub month_back-requires : goal.month_back-requires
 month_back-requires t c =
     let a = c.args in
-    let terms : MonthTerms a.severity.now a.sizes.now a.dense (get_or a.chances.now 0 0) =
     record {
-      weights_fit = c.requires.plan_terms.weights_fit;
-      listing = c.requires.listing;
-      chance_fits = c.requires.plan_terms.chances_fit.each 0;
-    } in record { rows_in = rows_in_again a.shape a.rows.now (c.all_months_back.new.rows) c.requires.rows_in (c.all_months_back.auto.rows) (c.all_months_back.ensures.parts); top_in = record { income_below = omega arith; inside = (fits t (goal.at.month_back-requires t c).Else-chances-lt1).first }; month_terms = terms }
+      rows_in = rows_in_again a.shape a.rows.now (c.all_months_back.new.rows) c.requires.rows_in (c.all_months_back.auto.rows) (c.all_months_back.ensures.parts);
+      top_in = record { income_below = omega arith; inside = (fits t (goal.at.month_back-requires t c).Else-chances-lt1).first };
+      chance_fits = c.requires.chances_fit.each 0;
+    }
 
 pub returns : goal.returns
 returns t c =
@@ -66,7 +62,7 @@ returns t c =
     let rest = c.all_months_back in
     let a = c.args in record {
       values = rw (first_and_rest a.chances.now (fits t (goal.at.returns t c).Else-chances-lt1).some-month)
-          (taken_back_more a.round a.severity.now a.shape a.opening (get_or a.chances.now 0 0) (take (length a.chances.now - 1) (drop 1 a.chances.now))
+          (taken_back_more a.round a.table.now.severity.now a.shape a.opening (get_or a.chances.now 0 0) (take (length a.chances.now - 1) (drop 1 a.chances.now))
           a.rows.now rest.new.rows first.new.rows rest.ensures.values first.ensures.back first.ensures.beyond);
       parts = first.ensures.parts;
     }

@@ -10,7 +10,7 @@ pub all_rows_back-requires : goal.all_rows_back-requires
 all_rows_back-requires c = record {
   rows_in = rows_in_again c.args.shape c.args.rows.now c.forbid_rows.new.rows c.requires.rows_in c.forbid_rows.auto.rows c.forbid_rows.ensures.parts;
   top_in = c.requires.top_in;
-  month_terms = c.requires.month_terms;
+  chance_fits = c.requires.chance_fits;
 }
 
 pub returns : goal.returns
@@ -22,7 +22,7 @@ returns c =
     let levels = forbidden_levels a.shape a.top c.requires.top_in.inside a.rows.now clear.new.rows clear.ensures.forbidden in record {
       back = λ k l s m.
           back.ensures.rewritten k l s m
-          ∙ month_forbidden a.round a.severity.now a.shape a.top a.chance (values_in a.shape a.top a.rows.now)
+          ∙ month_forbidden a.round a.table.now.severity.now a.shape a.top a.chance (values_in a.shape a.top a.rows.now)
           (values_in a.shape a.top clear.new.rows) levels k l s m;
       beyond = λ k l i m b. back.ensures.beyond k l i m b ∙ clear.ensures.forbidden k l i b;
       parts = back.ensures.parts;

@@ -42,15 +42,15 @@ slice_bounds-least_lower-end-2 c =
 
 pub least_lower-requires : goal.least_lower-requires
 least_lower-requires c =
-    let size = length-take-le (c.args.opening + c.args.income * length c.args.chances.now + 1) c.fill.new.self (omega (arith, (halves (goal.at.least_lower-requires c).Start).whole, c.fill.auto.self)) in record { walk = record { terms = c.requires.plan_terms.0; listing = c.requires.plan_terms.1; earns = c.requires.income_nonzero.0; inside = omega (arith, (halves (goal.at.least_lower-requires c).Start).levels-inside, size) }; target_nonzero = c.requires.target_nonzero }
+    let size = length-take-le (c.args.opening + c.args.income * length c.args.chances.now + 1) c.fill.new.self (omega (arith, (halves (goal.at.least_lower-requires c).Start).whole, c.fill.auto.self)) in record { walk = record { chances_fit = c.requires.chances_fit; earns = c.requires.income_nonzero.0; inside = omega (arith, (halves (goal.at.least_lower-requires c).Start).levels-inside, size) }; target_nonzero = c.requires.target_nonzero }
 
 pub returns-in_default : goal.returns-in_default
 unfolding refused
 returns-in_default c =
     let a = c.args in
     let none = found_of a.opening None in record {
-      answered = none_found a.income a.severity.now a.opening a.chances.now a.target none.opening
-          (found_opening a.income a.severity.now a.opening a.chances.now a.target none c.in_default.ensures.found) (omega arith) _ refl;
+      answered = none_found a.income a.table.now.severity.now a.opening a.chances.now a.target none.opening
+          (found_opening a.income a.table.now.severity.now a.opening a.chances.now a.target none c.in_default.ensures.found) (omega arith) _ refl;
       cleared = zero_still (length a.workspace.now) (c.args.opening + c.args.income * length c.args.chances.now + 1) (omega (arith, (halves (goal.at.returns-in_default c).Start).whole)) c.fill.new.self c.least_lower.new.row (c.fill.ensures.after (λ y e. e)) c.least_lower.ensures.cleared;
     }
 
@@ -74,8 +74,7 @@ upper_at-upper-requires c =
     let size = second_count (length a.workspace.now) (c.args.opening + c.args.income * length c.args.chances.now + 1) (omega (arith, (halves (goal.at.upper_at-upper-requires c).Start).whole)) c.fill.new.self c.least_lower.new.row (c.fill.ensures.after (λ y e. e)) c.least_lower.ensures.cleared
     (halves (goal.at.upper_at-upper-requires c).Start).whole c.least_lower.auto.row in
     record {
-      terms = c.requires.plan_terms.0;
-      listing = c.requires.plan_terms.1;
+      chances_fit = c.requires.chances_fit;
       earns = c.requires.income_nonzero.0;
       inside = omega (arith, (halves (goal.at.upper_at-upper-requires c).Start).levels-inside, size, level_from a.income found.opening a.opening (length a.chances.now) c.in-Some.ensures.inside);
     }
@@ -85,9 +84,9 @@ returns c =
     let a = c.args in
     let found = c.in-Some.found in
     let upper = c.upper_at-upper in record {
-      answered = one_found a.income a.severity.now a.opening a.chances.now a.target found.opening
-          (found_opening a.income a.severity.now a.opening a.chances.now a.target found c.in-Some.ensures.found) c.in-Some.ensures.inside found.lower upper.result
-          (found_lower a.income a.severity.now a.opening a.chances.now a.target found c.in-Some.ensures.found c.in-Some.ensures.inside) upper.ensures.upper;
+      answered = one_found a.income a.table.now.severity.now a.opening a.chances.now a.target found.opening
+          (found_opening a.income a.table.now.severity.now a.opening a.chances.now a.target found c.in-Some.ensures.found) c.in-Some.ensures.inside found.lower upper.result
+          (found_lower a.income a.table.now.severity.now a.opening a.chances.now a.target found c.in-Some.ensures.found c.in-Some.ensures.inside) upper.ensures.upper;
       cleared = zero_again (length a.workspace.now) (c.args.opening + c.args.income * length c.args.chances.now + 1) (omega (arith, (halves (goal.at.returns c).Start).whole)) c.fill.new.self c.least_lower.new.row (c.fill.ensures.after (λ y e. e)) c.least_lower.ensures.cleared
           (halves (goal.at.returns c).Start).whole c.least_lower.auto.row upper.new.row upper.ensures.cleared;
     }

@@ -11,12 +11,12 @@ use Rattle.target_rows.proofs.WalkLaws.{none_reached, found_none, found_some, op
 use Rattle.target_rows.proofs.rows.least_lower.Goals as goal
 use Rattle.target_rows.proofs.rows.least_lower.Goals.{Else-is_some, Start}
 
-walk : (c : Start) → Walk (length c.args.row.now) c.args.income c.args.opening c.args.chances.now c.args.severity.now c.args.sizes.now c.args.dense
+walk : (c : Start) → Walk (length c.args.row.now) c.args.income c.args.opening c.args.chances.now
 walk c = c.requires.walk
 
 -- the opening lies within the row
 inside : (c : Start) → c.args.opening < length c.args.row.now
-inside c = let a = c.args in omega (arith, (let walk : Walk (length c.args.row.now) c.args.income c.args.opening c.args.chances.now c.args.severity.now c.args.sizes.now c.args.dense = c.requires.walk in walk).inside, level_from a.income a.opening a.opening (length a.chances.now) (le_refl a.opening))
+inside c = let a = c.args in omega (arith, (let walk : Walk (length c.args.row.now) c.args.income c.args.opening c.args.chances.now = c.requires.walk in walk).inside, level_from a.income a.opening a.opening (length a.chances.now) (le_refl a.opening))
 
 given_some : (r : Option ℕ) → is_some r ≡ true → 0 < given_month r
 given_some None e = cc
@@ -31,8 +31,8 @@ returns-then-is_some c =
     let a = c.args in
     let walk_back = c.lower_back-given_up in
     let some : 0 < given_month walk_back.result = given_some walk_back.result (sym c.is_some.ensures ∙ c.if-is_some.true) in record {
-      found = found_none a.income a.severity.now a.opening a.chances.now a.target _ refl
-          (none_reached a.income a.severity.now a.opening a.chances.now a.target (given_month walk_back.result) (walk (goal.at.returns-then-is_some c).Start).terms c.requires.target_nonzero.0 some
+      found = found_none a.income a.table.now.severity.now a.opening a.chances.now a.target _ refl
+          (none_reached a.income a.table.now.severity.now a.opening a.chances.now a.target (given_month walk_back.result) a.table.now.weights_fit (walk (goal.at.returns-then-is_some c).Start).chances_fit c.requires.target_nonzero.0 some
           walk_back.ensures.given);
       inside = tt;
       cleared = c.fill.ensures.after (λ y e. e) ∙ ap (λ n. replicate n 0) walk_back.auto.row;
@@ -47,7 +47,7 @@ found_in-found-requires c =
     let a = c.args in
     let walk_back = c.lower_back-given_up in record {
       opening_in_bounds = omega (arith, inside (goal.at.found_in-found-requires c).Start, walk_back.auto.row);
-      reaches = some_opening a.income a.severity.now a.opening a.chances.now a.target (length a.row.now) (given_month walk_back.result) walk_back.new.row (ended (goal.at.found_in-found-requires c).Else-is_some) (walk (goal.at.found_in-found-requires c).Start).inside
+      reaches = some_opening a.income a.table.now.severity.now a.opening a.chances.now a.target (length a.row.now) (given_month walk_back.result) walk_back.new.row (ended (goal.at.found_in-found-requires c).Else-is_some) (walk (goal.at.found_in-found-requires c).Start).inside
           walk_back.ensures.given walk_back.ensures.back;
     }
 
@@ -57,12 +57,12 @@ returns c =
     let walk_back = c.lower_back-given_up in
     let month = given_month walk_back.result in
     let least = c.found_in-found in record {
-      found = found_some a.income a.severity.now a.opening a.chances.now a.target least.result
+      found = found_some a.income a.table.now.severity.now a.opening a.chances.now a.target least.result
           (least.ensures.found
-          ∙ least_is_same a.income a.severity.now a.opening a.chances.now a.target (length a.row.now) month walk_back.new.row (ended (goal.at.returns c).Else-is_some) (walk (goal.at.returns c).Start).inside
+          ∙ least_is_same a.income a.table.now.severity.now a.opening a.chances.now a.target (length a.row.now) month walk_back.new.row (ended (goal.at.returns c).Else-is_some) (walk (goal.at.returns c).Start).inside
           walk_back.ensures.given walk_back.ensures.back)
           (least.ensures.lower
-          ∙ openings_are a.income a.severity.now a.opening a.chances.now a.target (length a.row.now) month walk_back.new.row (ended (goal.at.returns c).Else-is_some) (walk (goal.at.returns c).Start).inside
+          ∙ openings_are a.income a.table.now.severity.now a.opening a.chances.now a.target (length a.row.now) month walk_back.new.row (ended (goal.at.returns c).Else-is_some) (walk (goal.at.returns c).Start).inside
           walk_back.ensures.given walk_back.ensures.back least.result.opening least.ensures.inside)
           least.ensures.inside;
       inside = least.ensures.inside;

@@ -20,21 +20,24 @@ unfolding outside
 shape_of-shape-requires c = refl
 
 -- what the walk takes, and the row's length as the invariant knows it
-walk : (c : Start) → Walk (length c.args.row.now) c.args.income c.args.opening c.args.chances.now c.args.severity.now c.args.sizes.now c.args.dense
+walk : (c : Start) → Walk (length c.args.row.now) c.args.income c.args.opening c.args.chances.now
 walk c = c.requires.walk
 
 same_width : (c : After-fill) → length c.fill.new.self ≡ length c.args.row.now
 same_width c = c.fill.auto.self
 
 wide : (c : After-fill) → let a = c.args in largest_level a.income a.opening (length a.chances.now) < length c.fill.new.self
-wide c = omega (arith, (let same_width : length c.fill.new.self ≡ length c.args.row.now = c.fill.auto.self in same_width), (let walk : Walk (length c.args.row.now) c.args.income c.args.opening c.args.chances.now c.args.severity.now c.args.sizes.now c.args.dense = c.requires.walk in walk).inside)
+wide c = omega (arith, (let same_width : length c.fill.new.self ≡ length c.args.row.now = c.fill.auto.self in same_width), (let walk : Walk (length c.args.row.now) c.args.income c.args.opening c.args.chances.now = c.requires.walk in walk).inside)
 
 pub months-init : goal.months-init
 unfolding S
 months-init c =
     let a = c.args in
-    record { walking = walking_start a.income a.severity.now a.opening a.chances.now a.target (length c.fill.new.self) (wide (goal.at.months-init c).After-fill) c.requires.target_nonzero.1 c.fill.new.self
-    (c.fill.ensures.after (λ y e. e) ∙ ap (λ n. replicate n S) (sym (same_width (goal.at.months-init c).After-fill))); not_yet = refl }
+    record {
+      walking = walking_start a.income a.table.now.severity.now a.opening a.chances.now a.target (length c.fill.new.self) (wide (goal.at.months-init c).After-fill) c.requires.target_nonzero.1 c.fill.new.self
+          (c.fill.ensures.after (λ y e. e) ∙ ap (λ n. replicate n S) (sym (same_width (goal.at.months-init c).After-fill)));
+      not_yet = refl;
+    }
 
 -- a month that is walked is one of the plan's
 some-month : (c : In-months) → 0 < c.months.month
@@ -61,8 +64,8 @@ levels c =
     rw back
     record {
       this =
-          omega (arith, month_inside a.income a.severity.now a.opening a.chances.now a.target (length c.fill.new.self) (let wide : let a = c.args in largest_level a.income a.opening (length a.chances.now) < length c.fill.new.self = omega (arith, (let same_width : length c.fill.new.self ≡ length c.args.row.now = c.fill.auto.self in same_width), (let walk : Walk (length c.args.row.now) c.args.income c.args.opening c.args.chances.now c.args.severity.now c.args.sizes.now c.args.dense = c.requires.walk in walk).inside) in wide) loop.month loop.invariant.walking.inside);
-      some = (let walk : Walk (length c.args.row.now) c.args.income c.args.opening c.args.chances.now c.args.severity.now c.args.sizes.now c.args.dense = c.requires.walk in walk).earns;
+          omega (arith, month_inside a.income a.table.now.severity.now a.opening a.chances.now a.target (length c.fill.new.self) (let wide : let a = c.args in largest_level a.income a.opening (length a.chances.now) < length c.fill.new.self = omega (arith, (let same_width : length c.fill.new.self ≡ length c.args.row.now = c.fill.auto.self in same_width), (let walk : Walk (length c.args.row.now) c.args.income c.args.opening c.args.chances.now = c.requires.walk in walk).inside) in wide) loop.month loop.invariant.walking.inside);
+      some = (let walk : Walk (length c.args.row.now) c.args.income c.args.opening c.args.chances.now = c.requires.walk in walk).earns;
       income_below = omega (arith, month_before a.income a.opening loop.month (let some_month : 0 < c.months.month = omega (arith, c.months-test.true) in some_month));
       walked = loop.invariant.walking.inside;
       row = loop.invariant.walking.size;
@@ -94,21 +97,17 @@ month_back-requires c =
     let shape = c.shape_of-shape.result in record {
       rows_in = rows_in shape width c.args.income loop.row (shape_is (goal.at.month_back-requires c).At-months) (walk (goal.at.month_back-requires c).Start).earns loop.invariant.walking.size loop.invariant.walking.parts;
       top_in = top_in shape width c.args.income (c.args.opening + c.args.income * (loop.month - 1 + 1)) (shape_is (goal.at.month_back-requires c).At-months) (omega (arith, (levels (goal.at.month_back-requires c).In-months).income_below)) (omega (arith, (levels (goal.at.month_back-requires c).In-months).this));
-      month_terms = record {
-        weights_fit = (walk (goal.at.month_back-requires c).Start).terms.weights_fit;
-        listing = (walk (goal.at.month_back-requires c).Start).listing;
-        chance_fits = (walk (goal.at.month_back-requires c).Start).terms.chances_fit.each (loop.month - 1);
-      };
+      chance_fits = (walk (goal.at.month_back-requires c).Start).chances_fit.each (loop.month - 1);
     }
 
 -- the row that the month left is that of the months from it on
-taken : (c : After-month_back) → let a = c.args in let t = c.months.month in let width = length c.fill.new.self in TakenBack Down a.severity.now (shape_of Survive width a.income) (largest_level a.income a.opening (t - 1)) (drop (t - 1) a.chances.now) (replicate width S) c.month_back.new.rows
+taken : (c : After-month_back) → let a = c.args in let t = c.months.month in let width = length c.fill.new.self in TakenBack Down a.table.now.severity.now (shape_of Survive width a.income) (largest_level a.income a.opening (t - 1)) (drop (t - 1) a.chances.now) (replicate width S) c.month_back.new.rows
 unfolding largest_level
 taken c =
     let a = c.args in
     let loop = c.months in
     let back : loop.month - 1 + 1 ≡ loop.month = omega (arith, c.months-test.true) in
-    walked a.income a.severity.now a.opening a.chances.now a.target (length c.fill.new.self) (let wide : let a = c.args in largest_level a.income a.opening (length a.chances.now) < length c.fill.new.self = omega (arith, (let same_width : length c.fill.new.self ≡ length c.args.row.now = c.fill.auto.self in same_width), (let walk : Walk (length c.args.row.now) c.args.income c.args.opening c.args.chances.now c.args.severity.now c.args.sizes.now c.args.dense = c.requires.walk in walk).inside) in wide) loop.month
+    walked a.income a.table.now.severity.now a.opening a.chances.now a.target (length c.fill.new.self) (let wide : let a = c.args in largest_level a.income a.opening (length a.chances.now) < length c.fill.new.self = omega (arith, (let same_width : length c.fill.new.self ≡ length c.args.row.now = c.fill.auto.self in same_width), (let walk : Walk (length c.args.row.now) c.args.income c.args.opening c.args.chances.now = c.requires.walk in walk).inside) in wide) loop.month
     (let some_month : 0 < c.months.month = omega (arith, c.months-test.true) in some_month) loop.row loop.invariant.walking c.month_back.new.rows c.shape_of-shape.result (let shape_is : c.shape_of-shape.result ≡ shape_of Survive (length c.fill.new.self) c.args.income = c.shape_of-shape.ensures ∙ ap (λ n. shape_of Survive n c.args.income) (sym (let same_width : length c.fill.new.self ≡ length c.args.row.now = c.fill.auto.self in same_width)) in shape_is)
     (a.opening + a.income * (loop.month - 1 + 1)) (ap (λ (n : ℕ). a.opening + a.income * n) back) c.month_back.ensures.back c.month_back.ensures.beyond
 
@@ -145,7 +144,7 @@ months-preserved c =
     let loop = c.months in
     let back : a.income * (loop.month - 1 + 1) ≡ a.income * loop.month = again a.income loop.month (some-month (goal.at.months-preserved c).In-months) in
     record {
-      walking = walking_on a.income a.severity.now a.opening a.chances.now a.target (length c.fill.new.self) (wide (goal.at.months-preserved c).After-fill) loop.month
+      walking = walking_on a.income a.table.now.severity.now a.opening a.chances.now a.target (length c.fill.new.self) (wide (goal.at.months-preserved c).After-fill) loop.month
           (some-month (goal.at.months-preserved c).In-months) loop.row loop.invariant.walking c.month_back.new.rows (taken (goal.at.months-preserved c).After-month_back) c.month_back.auto.rows c.month_back.ensures.parts
           c.loop-place.place (omega (arith, c.loop-place.invariant.inside, month_before a.income a.opening loop.month (some-month (goal.at.months-preserved c).In-months), back)) c.if-target-row.true;
       not_yet = c.loop-place.invariant.not_yet;
@@ -158,9 +157,9 @@ returns-after-months c =
     let loop = c.months in
     let done : loop.month ≡ 0 = omega arith in
     let none : loop.month ≡ given_month loop.given_up-1 = done ∙ sym (ap given_month loop.invariant.not_yet) in record {
-      given = rw none at (walked_all a.income a.severity.now a.opening a.chances.now a.target width loop.month loop.row done loop.invariant.walking);
-      back = rw none at (as_lent a.income a.severity.now a.opening a.chances.now (loop.month - 1) width (length a.row.now) loop.row (same_width (goal.at.returns-after-months c).After-fill)
-          (walked_end a.income a.severity.now a.opening a.chances.now a.target width loop.month loop.row done loop.invariant.walking));
+      given = rw none at (walked_all a.income a.table.now.severity.now a.opening a.chances.now a.target width loop.month loop.row done loop.invariant.walking);
+      back = rw none at (as_lent a.income a.table.now.severity.now a.opening a.chances.now (loop.month - 1) width (length a.row.now) loop.row (same_width (goal.at.returns-after-months c).After-fill)
+          (walked_end a.income a.table.now.severity.now a.opening a.chances.now a.target width loop.month loop.row done loop.invariant.walking));
     }
 
 pub returns-then-place-last : goal.returns-then-place-last
@@ -174,8 +173,8 @@ returns-then-place-last c =
     let back : a.income * (loop.month - 1 + 1) ≡ a.income * loop.month = again a.income loop.month above in
     rw this
     record {
-      given = giving_up a.income a.severity.now a.opening a.chances.now a.target width (wide (goal.at.returns-then-place-last c).After-fill) loop.month
+      given = giving_up a.income a.table.now.severity.now a.opening a.chances.now a.target width (wide (goal.at.returns-then-place-last c).After-fill) loop.month
           above loop.row loop.invariant.walking c.month_back.new.rows (taken (goal.at.returns-then-place-last c).After-month_back)
           (λ i l. below_more (λ i. get_or c.month_back.new.rows i 0 < a.target) c.loop-place.place c.loop-place.invariant.below c.if-target-row.false i (omega (arith, c.if-place-last.true, month_before a.income a.opening loop.month above, back)));
-      back = as_lent a.income a.severity.now a.opening a.chances.now (loop.month - 1) width (length a.row.now) c.month_back.new.rows (same_width (goal.at.returns-then-place-last c).After-fill) (taken (goal.at.returns-then-place-last c).After-month_back);
+      back = as_lent a.income a.table.now.severity.now a.opening a.chances.now (loop.month - 1) width (length a.row.now) c.month_back.new.rows (same_width (goal.at.returns-then-place-last c).After-fill) (taken (goal.at.returns-then-place-last c).After-month_back);
     }

@@ -11,4 +11,4 @@ abbrev pub invariant-loop-place : goal.invariant-loop-place
 invariant-loop-place l = record { inside : l.place ≤ l.last; below : (i : ℕ) → i < l.place → get_or l.row i 0 < l.target; not_yet : l.given_up ≡ None }
 
 abbrev pub invariant-months : goal.invariant-months
-invariant-months l = record { walking : Walking l.income l.severity l.opening l.chances l.target (length l.initial.row) l.month l.row; not_yet : l.given_up ≡ None }
+invariant-months l = record { walking : Walking l.income l.table.severity.now l.opening l.chances l.target (length l.initial.row) l.month l.row; not_yet : l.given_up ≡ None }
