@@ -1,39 +1,14 @@
-// What more than one crate does with numbers. The widenings are calls, since on an element of a slice a call asks for no proof that it fits.
+// What more than one crate does with numbers.
 #![tactic(auto)]
 
-ghost use Rattle.std.specs.Prelude.{◌≡◌, ◌+◌, ◌-◌, ◌*◌, ◌^◌, ◌<◌, ◌≤◌, min, length, take, drop};
+ghost use Rattle.std.specs.Prelude.{◌≡◌, ◌+◌, ◌*◌, ◌^◌, ◌<◌, ◌≤◌, length, take, drop};
 ghost use Rattle.numbers.specs.Bytes.{big_endian};
-
-pub fn lesser(a: usize, b: usize) -> usize
-    ensures { result ≡ min a b }
-{
-    if a < b { a } else { b }
-}
-
-// Cut off at 0, where a plain difference would wrap.
-pub fn difference(a: usize, b: usize) -> usize
-    ensures { result ≡ a - b }
-{
-    if a < b { 0 } else { a - b }
-}
-
-pub fn wide(x: u32) -> u64
-    ensures { result ≡ x }
-{
-    x as u64
-}
-
-pub fn index(x: u8) -> usize
-    ensures { result ≡ x }
-{
-    x as usize
-}
 
 // The product of two numbers, in a word that holds it.
 pub fn product(weight: u32, value: u32) -> u64
     ensures { result ≡ weight * value }
 {
-    weight as u64 * value as u64
+    u64::from(weight) * u64::from(value)
 }
 
 // The number of `count` bytes from a place on, most significant first.
