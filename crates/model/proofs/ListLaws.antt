@@ -22,10 +22,10 @@ module _ (test : ℕ → Bool) where
   index_of : (xs : List ℕ) → any test xs ≡ true → SomeIndex xs (λ k. test (get_or xs k 0) ≡ true)
   unfolding any
   index_of [] e = absurd (let z : false ≡ true = e in cc)
-  index_of (x ∷ xs) e = elim (test x) as (λ v. test x ≡ v → v || any test xs ≡ true → SomeIndex (x ∷ xs) (λ k. test (get_or (x ∷ xs) k 0) ≡ true))
-    [ true ↦ λ h _. (0, omega arith, h)
+  index_of (x ∷ xs) e = elim (test x) as (λ v. test x ≡ v → v || any test xs ≡ true → SomeIndex (x ∷ xs) (λ k. test (get_or (x ∷ xs) k 0) ≡ true)) [
+    | true ↦ λ h _. (0, omega arith, h)
     | false ↦ λ _ later. let f = index_of xs later in (suc f.0, omega (arith, f.1), f.2)
-    ] refl e
+  ] refl e
 
   passes : (xs : List ℕ) (k : ℕ) → k < length xs → test (get_or xs k 0) ≡ true → any test xs ≡ true
   unfolding any
@@ -41,7 +41,7 @@ module _ (test : ℕ → Bool) where
       → IsTrue b ↔ SomeIndex xs (λ k. P (get_or xs k 0))
       → b ≡ any test xs
   any_is P decides xs true h = let f = h.0 refl in sym (passes xs f.0 f.1 ((decides (get_or xs f.0 0)).0 f.2))
-  any_is P decides xs false h = elim (any test xs) as (λ v. any test xs ≡ v → false ≡ v)
-    [ true ↦ λ e. let f = index_of xs e in h.1 (f.0, f.1, (decides (get_or xs f.0 0)).1 f.2)
+  any_is P decides xs false h = elim (any test xs) as (λ v. any test xs ≡ v → false ≡ v) [
+    | true ↦ λ e. let f = index_of xs e in h.1 (f.0, f.1, (decides (get_or xs f.0 0)).1 f.2)
     | false ↦ λ _. refl
-    ] refl
+  ] refl

@@ -1,5 +1,5 @@
 -- Laws of a refusal's number: it is not 0, so that 0 says that nothing is refused.
-use Prim.Native.Nat.{ℕ, ◌≤◌, ◌<◌}
+use Prim.Native.Nat.{ℕ, ◌<◌}
 use mathlib.Core.Path.{◌≡◌, ap, ◌∙◌}
 use native.Mathlib.Omega.{arith}
 use Rattle.model.specs.declared.refusal.Refusal.{Refusal}

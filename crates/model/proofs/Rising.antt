@@ -4,7 +4,7 @@ use Prim.Native.Nat.{ℕ, zero, suc, ◌+◌, ◌*◌, ◌-◌, ◌≤◌, zero-
 use native.Mathlib.Nat.{le_refl, add-le-add, mul-le-mul_left}
 use native.Mathlib.Omega.{arith}
 use Rattle.model.specs.Scale.{S}
-use Rattle.model.specs.MonthRule.{Row, claim_sum, month, exact_month}
+use Rattle.model.specs.MonthRule.{Row, claim_sum, exact_month}
 use Rattle.model.proofs.Month.{claim_sum_none, claim_sum_ground, claim_sum_cons}
 
 -- no level has a smaller value than one below it

@@ -94,7 +94,7 @@ padding c =
     let rest : length (drop end bits) ≡ 8 * length c.args.bytes.now - end = rw (length-drop, length_bits_of) in
     let end_is : end ≡ bit_length (head_of c.args.bytes.now) = c.bit_length-end.ensures ∙ ap bit_length c.head_of-head.ensures in
     let read : c.field.result ≡ number (fill_of c.args.bytes.now) =
-        c.field.ensures ∙ ap number (take_all _ _ (le_of_eq rest)) ∙ ap (λ n. number (drop n bits)) end_is
+    c.field.ensures ∙ ap number (take_all _ _ (le_of_eq rest)) ∙ ap (λ n. number (drop n bits)) end_is
     in
     fill_test c.args.bytes.now ∙ ap (λ n. not (eqb n 0)) (sym read)
 
@@ -126,7 +126,7 @@ unfolding fill_of head_bits row_of
 rest c whole ok sized filled n number =
     let count_is : c.row_length-count.result ≡ row_length (head_of c.args.bytes.now) = c.row_length-count.ensures ∙ ap row_length c.head_of-head.ensures in
     let number_is : n ≡ plan_refusal (head_of c.args.bytes.now) (row_of c.args.bytes.now) =
-        number ∙ ap₂ (λ h k. plan_refusal h (fields number_width k (drop head_bits (bits_of c.args.bytes.now)))) c.head_of-head.ensures count_is
+    number ∙ ap₂ (λ h k. plan_refusal h (fields number_width k (drop head_bits (bits_of c.args.bytes.now)))) c.head_of-head.ensures count_is
     in
     read_rest _ _ whole ok sized filled ∙ ap₂ (λ n k. cond (eqb n 0) (cond (ltb c.args.room k) 11 0) n) (sym number_is) (sym count_is)
 
