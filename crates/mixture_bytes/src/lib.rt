@@ -100,6 +100,7 @@ fn read_weights(bytes: &[u8], count: usize) -> [u32; limits::PLANS]
 {
     let mut weights = [0u32; limits::PLANS];
     for i in 0..count {
+        // Proved to fit: TryFrom would add an error that never comes.
         weights[i] = big_endian(bytes, 4 * i, 4) as u32;
     }
     weights

@@ -10,6 +10,7 @@ pub use refusal::Refusal;
 pub const SCALE: u32 = 1 << 30;
 
 // S for products and sums, which take 64 bits.
+// A constant calls no From.
 pub const WIDE_SCALE: u64 = SCALE as u64;
 
 // Which way a quotient is rounded: down for a lower bound, up for an upper one.

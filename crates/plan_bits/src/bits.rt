@@ -7,6 +7,7 @@ pub fn digit(x: usize, place: usize) -> u32
     requires { place < 64 }
     ensures { result ≡ x / 2 ^ place % 2 }
 {
+    // Proved to fit: TryFrom would add an error that never comes.
     ((x >> place) % 2) as u32
 }
 
@@ -15,7 +16,7 @@ pub fn bit(bytes: &[u8], at: usize) -> u32
     requires { at < 8 * length bytes.now }
     ensures { result ≡ get_or (bits_of bytes.now) at 0 }
 {
-    let byte = bytes[at / 8] as usize;
+    let byte = usize::from(bytes[at / 8]);
     let place = 7 - at % 8;
     digit(byte, place)
 }

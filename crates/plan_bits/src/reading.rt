@@ -14,6 +14,7 @@ pub fn head_of(bytes: &[u8]) -> Head
     requires { head_bytes ≤ length bytes.now }
     ensures { result ≡ head_of bytes.now }
 {
+    // std has no From that makes a u32 a usize.
     let months = bits::field(bytes, 0, format::MONTHS) as usize;
     let opening = bits::field(bytes, format::MONTHS, format::OPENING) as usize;
     let sizes = bits::field(bytes, format::BEFORE_SIZES, format::SIZES) as usize;

@@ -29,6 +29,7 @@ fn bit(head: Head, row: &[u32], at: usize) -> u32
     let after_head = after_sizes - format::INCOME;
     let i = after_head / format::NUMBER;
     if i < row.len() {
+        // std has no From that makes a u32 a usize.
         return bits::digit(
             row[i] as usize,
             format::NUMBER - 1 - after_head % format::NUMBER,
@@ -46,6 +47,7 @@ fn byte(head: Head, row: &[u32], from: usize) -> u8
     for k in 0..8 {
         x = x * 2 + bit(head, row, from + k);
     }
+    // Proved to fit: TryFrom would add an error that never comes.
     x as u8
 }
 

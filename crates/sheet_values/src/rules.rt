@@ -71,6 +71,7 @@ fn put_sizes(alpha: f64, row: &mut [u32])
 {
     let sizes = row.len() - 1;
     put_weights(alpha, &mut row[..sizes]);
+    // Proved to fit: TryFrom would add an error that never comes.
     row[sizes] = SCALE - weights_total(alpha, sizes) as u32;
 }
 

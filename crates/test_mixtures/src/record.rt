@@ -110,6 +110,7 @@ fn number(bytes: &[u8], i: usize) -> u32
     requires { 4 * i + 4 ≤ length bytes.now }
     ensures { result ≡ number_at bytes.now i }
 {
+    // Proved to fit: TryFrom would add an error that never comes.
     big_endian(bytes, 4 * i, 4) as u32
 }
 

@@ -79,6 +79,7 @@ fn print_report(plan: &[u8]) {
 fn start<const N: usize>(refusal: u32, answered: [usize; N]) {
     io::print_decimal(STDOUT_FILENO, u64::from(refusal));
     for x in answered {
+        // std has no From that makes a usize a u64.
         next(x as u64);
     }
 }

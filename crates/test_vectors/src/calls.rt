@@ -85,6 +85,7 @@ fn least(head: Head, target: u32, row: &[u32], workspace: &mut [u32]) {
         Ok(found) => {
             let bounds = found.bounds;
             text::answered(&[
+                // std has no From that makes a usize a u64.
                 found.opening as u64,
                 u64::from(bounds.lower),
                 u64::from(bounds.upper),

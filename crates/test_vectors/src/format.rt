@@ -15,6 +15,7 @@ pub fn write(record: Record, row: &[u32]) {
 
 fn write_into(head: Head, row: &[u32], bytes: &mut [u8]) {
     match codec::write(head, row, bytes) {
+        // std has no From that makes a usize a u64.
         Ok(length) => text::answered(&[length as u64]),
         Err(refusal) => text::refused(refusal, 1),
     }
@@ -44,6 +45,7 @@ fn read_from(record: Record, bytes: &mut [u8]) {
 fn read_into(bytes: &[u8], row: &mut [u32]) {
     match codec::read(bytes, row) {
         Ok(head) => text::answered(&[
+            // std has no From that makes a usize a u64.
             head.months as u64,
             head.opening as u64,
             head.sizes as u64,

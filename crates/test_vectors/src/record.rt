@@ -115,6 +115,7 @@ fn number(bytes: &[u8], at: usize) -> u32
     requires { at + 4 ≤ length bytes.now }
     ensures { result ≡ number_at bytes.now at }
 {
+    // Proved to fit: TryFrom would add an error that never comes.
     big_endian(bytes, at, 4) as u32
 }
 

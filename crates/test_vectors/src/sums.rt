@@ -40,5 +40,6 @@ fn sum(table: &ListedTable, after: &[u32])
     let most = after.len().min(table.severity.len());
     let first = first_within(table.sizes, 0, most);
     let claims = claim_sum(table.severity, &table.sizes[first..], table.dense, after);
+    // std has no From that makes a usize a u64.
     text::answered(&[claims.quotient, claims.remainder, claims.products as u64]);
 }

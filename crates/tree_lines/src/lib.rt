@@ -35,6 +35,7 @@ fn put_claim(
     if weight == 0 {
         return at;
     }
+    // std has no From that makes a usize a u64.
     let end = put_entry(text, at, b"  claim", &[place as u64 + 1]);
     let end = put_entry(text, end, b" weight", &[weight]);
     if followed(question, node.left, 1) == 0 {
@@ -133,6 +134,7 @@ pub fn put_node(
     requires level_in_bounds { at + length (node_text question severity.now tail month chances.now node.left node.level) ≤ length text.old }
     ensures { Appended text.old at (node_text question severity.now tail month chances.now node.left node.level) text.new result }
 {
+    // std has no From that makes a usize a u64.
     let end = put_entry(text, at, b"month", &[month as u64]);
     let end = put_value(
         text, end, b" level", question, month, chances, severity, node,

@@ -19,6 +19,7 @@ fn put_left(text: &mut [u8], at: usize, question: Question, left: usize) -> usiz
 {
     match question {
         Question::Survive => at,
+        // std has no From that makes a usize a u64.
         Question::Both(_) => put_entry(text, at, b" left", &[left as u64]),
         Question::High(_) => at,
         Question::Low(_) => at,
@@ -39,6 +40,7 @@ fn put_place(
     ensures { Appended text.old at (place_text word.now question node.left node.level allowed bounds) text.new result }
 {
     let numbers = [u64::from(bounds.lower), u64::from(bounds.upper)];
+    // std has no From that makes a usize a u64.
     let end = put_entry(text, at, word, &[node.level as u64]);
     let end = put_left(text, end, question, node.left);
     if allowed {

@@ -1,7 +1,7 @@
 use Prim.Native.Nat.{◌*◌}
 use mathlib.Core.Path.{sym, ap, ◌∙◌}
 use native.Mathlib.Omega.{arith}
-use lib.ListN.{take, length-set}
+use lib.ListN.{take}
 use lib.Seq.{drop-drop}
 use Rattle.model.specs.Format.{number_width, number, head_bits}
 use Rattle.model.proofs.Filling.{filling_none, filling_more, filling_done}

@@ -1,6 +1,5 @@
 use mathlib.Core.Path.{ap, ◌∙◌}
 use native.Mathlib.Omega.{arith}
-use lib.ListN.{length-set}
 use Rattle.model.specs.Format.{fields, filled_bits, bytes_of}
 use Rattle.model.proofs.Facts.{accepted_head}
 use Rattle.model.proofs.Rooms.{byte_length_fits, longest_between}
