@@ -35,7 +35,8 @@ pub fn value_at(row: &[u32], top: usize, level: usize) -> u32
 
 // The row at index `quiet` goes back one month: its first `live` places, from level live - 1 down to 0. Place 0 held the level `top`, so that the income
 // is top + 1 - live. After a claim the row at index `claimed` is read, which lies no earlier, and no claim leads to level 0, at place `top`. As the levels
-// fall, the largest sizes leave the range for good.
+// fall, the largest sizes leave the range for good. Inlined, so that the call for the last row, which reads the row that it rewrites, is compiled by itself.
+#[inline(always)]
 pub fn row_back(
     rows: &mut [u32],
     quiet: usize,
