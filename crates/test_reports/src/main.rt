@@ -13,7 +13,7 @@ fn main() {
     print_reports(&plans[..n]);
 }
 
-// A plan that is cut off, since the input ends, has no report.
+// A plan that is cut off, since the input ends, has no report. A turn is as long as its plan, so that no `for` goes over them.
 fn print_reports(mut plans: &[u8]) {
     while let Some((size, after)) = plans.split_first_chunk::<2>() {
         let length = usize::from(u16::from_be_bytes(*size));
