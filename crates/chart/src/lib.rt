@@ -34,7 +34,7 @@ fn put_chart(text: &mut [u8], bytes: &[u8]) -> usize
 {
     match codec::read_plan(bytes) {
         Ok(plan) => put_plan(text, plan.head, &plan.row),
-        Err(refusal) => put_refused(text, 0, refusal),
+        Err(refusal) => put_refused(text, 0, refusal.number()),
     }
 }
 

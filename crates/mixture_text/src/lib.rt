@@ -38,7 +38,7 @@ fn put_report(text: &mut [u8], bytes: &[u8], workspace: &mut [u32]) -> usize
 {
     match read_mixture(bytes) {
         Ok(read) => put_accepted(text, read.mixture, &read.row, read.used, workspace),
-        Err(refusal) => put_refused(text, 0, refusal),
+        Err(refusal) => put_refused(text, 0, refusal.number()),
     }
 }
 

@@ -33,7 +33,7 @@ fn put_quote(text: &mut [u8], bytes: &[u8], target: u32) -> usize
 {
     match least_for(bytes, target) {
         Ok(least) => put_least(text, least),
-        Err(refusal) => put_refused(text, 0, refusal),
+        Err(refusal) => put_refused(text, 0, refusal.number()),
     }
 }
 

@@ -1,13 +1,13 @@
 // The lines of the report, appended to a text.
 ghost use Rattle.std.specs.Prelude.{◌≡◌, false, ◌+◌, ◌≤◌, length};
 ghost use Rattle.model.specs.Plan.{plan_of};
-ghost use Rattle.model.specs.Refusal.{outside, refusal_number};
+ghost use Rattle.model.specs.Refusal.{outside};
 ghost use Rattle.text.specs.Text.{Appended};
 ghost use Rattle.report_lines.specs.Asking.{Answerable, workspace_left};
 ghost use Rattle.report_lines.specs.Lines.{head_line, head_room, bounds_line, question_line, numbered_line, refused_line, line_room, number_room};
 
 use crate::answers;
-use model::{Head, Question, Refusal};
+use model::{Head, Question};
 use text::{put_entry, put_line};
 
 #[tactic(auto, using(text::proofs::TextLaws::entry_at_most, text::proofs::TextLaws::line_at_most))]
@@ -80,9 +80,9 @@ pub fn put_numbered(
 
 // The line of a refused plan, in the place of its report or its quote.
 #[tactic(auto, using(text::proofs::TextLaws::line_at_most))]
-pub fn put_refused(text: &mut [u8], at: usize, refusal: Refusal) -> usize
+pub fn put_refused(text: &mut [u8], at: usize, refusal: u32) -> usize
     requires { at + line_room ≤ length text.old }
-    ensures { Appended text.old at (refused_line (refusal_number refusal)) text.new result }
+    ensures { Appended text.old at (refused_line refusal) text.new result }
 {
-    put_line(text, at, b"refused", &[u64::from(refusal.number())])
+    put_line(text, at, b"refused", &[u64::from(refusal)])
 }

@@ -36,7 +36,7 @@ fn put_report(text: &mut [u8], bytes: &[u8], workspace: &mut [u32]) -> usize
 {
     match codec::read_plan(bytes) {
         Ok(plan) => put_accepted(text, plan.head, &plan.row, workspace),
-        Err(refusal) => put_refused(text, 0, refusal),
+        Err(refusal) => put_refused(text, 0, refusal.number()),
     }
 }
 

@@ -87,6 +87,7 @@ fn weights(words: &[u8; BYTES]) -> [u32; limits::PLANS]
     weights
 }
 
+// The number is matched here and nowhere else, so that an enum with a conversion from it would be no plainer.
 fn question(kind: usize, number: usize) -> Question
     ensures { result ≡ question_of kind number }
 {

@@ -41,6 +41,7 @@ fn print_record(record: &[u8]) {
     print_tree(&record[ASKED..], question(record[0], number));
 }
 
+// The number is matched here and nowhere else, so that an enum with a conversion from it would be no plainer.
 fn question(kind: u8, number: usize) -> Question {
     match kind {
         1 => Question::Both(number),

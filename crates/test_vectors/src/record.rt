@@ -134,7 +134,7 @@ pub fn bytes(fill: u8) -> [u8; space::BYTES]
     [fill; space::BYTES]
 }
 
-// Reads a row of `count` numbers, and answers its length, or 0 where there is no room for it.
+// Reads a row of `count` numbers, and answers its length, or 0 where there is no room for it: a number, as `row_used` has it.
 #[tactic(auto, unfolding(crate::specs::Rooms::row_used))]
 pub fn read_row(count: usize, row: &mut [u32]) -> usize
     ensures used { result ≡ row_used count (length row.old) }

@@ -54,7 +54,7 @@ fn put_first(text: &mut [u8], month: usize, refusal: Refusal) -> usize
     ensures { Appended text.old 0 (first_part month (refused_line (refusal_number refusal))) text.new result }
 {
     if month == 0 {
-        return put_refused(text, 0, refusal);
+        return put_refused(text, 0, refusal.number());
     }
     0
 }

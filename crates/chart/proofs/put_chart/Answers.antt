@@ -24,4 +24,4 @@ returns-in-Ok c =
 pub returns-in-Err : goal.returns-in-Err
 returns-in-Err c =
     let number = plan_unread c.args.bytes.now c.in-Err.refusal c.in-Err.ensures in
-    rw (chart_refused _ (not_accepted _ _ number) ∙ ap refused_line (sym number)) c.put_refused.ensures
+    rw (chart_refused _ (not_accepted _ _ number) ∙ ap refused_line (sym number ∙ sym c.number.ensures)) c.put_refused.ensures

@@ -28,6 +28,6 @@ pub returns-in-Err : goal.returns-in-Err
 returns-in-Err c =
     let number = c.in-Err.ensures.number in
     record {
-      written = rw (report_refused _ (not_accepted _ _ number) ∙ ap refused_line (sym number)) c.put_refused.ensures;
+      written = rw (report_refused _ (not_accepted _ _ number) ∙ ap refused_line (sym number ∙ sym c.number.ensures)) c.put_refused.ensures;
       cleared = rw (needs_refused _ (not_accepted _ _ number)) (nothing_cleared _);
     }
