@@ -218,8 +218,11 @@ module _
         pub number_as : (n : ℕ) → n ≡ mixture_refusal (record { count = count; heads = heads; weights = weights }) (take used row) → n ≡ bytes_refusal bytes
         number_as n en = rw counted at en ∙ number_is bytes none all_read heads used plans_as blank row (sym room) left_as weights weights_as weights_long
 
+        -- both of the number: it is the bytes', and where it is none the mixture that was read is theirs
         pub read_as :
-            MixtureAccepted (record { count = count; heads = heads; weights = weights }) (take used row) →
-            MixtureRead bytes (record { count = count; heads = heads; weights = weights }) used row
-        read_as accepted =
-            rw counted (mixture_read bytes none all_read heads used plans_as blank row (sym room) left_as weights weights_as weights_long same (rw counted at accepted))
+            (n : ℕ) → n ≡ mixture_refusal (record { count = count; heads = heads; weights = weights }) (take used row) →
+            (n ≡ bytes_refusal bytes) × (n ≡ 0 → MixtureRead bytes (record { count = count; heads = heads; weights = weights }) used row)
+        read_as n en = (
+          number_as n en,
+          λ z. rw counted (mixture_read bytes none all_read heads used plans_as blank row (sym room) left_as weights weights_as weights_long same (rw counted at (sym en ∙ z))),
+        )

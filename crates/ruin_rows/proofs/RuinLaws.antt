@@ -4,8 +4,8 @@ use mathlib.Core.List.{List, [], ◌∷◌, ◌++◌}
 use Prim.Native.Nat.{ℕ, ◌+◌, ◌*◌, ◌-◌, ◌≤◌}
 use native.Mathlib.Nat.{mul-le-mul}
 use native.Mathlib.Omega.{arith}
-use lib.ListN.{take, drop, replicate, length-replicate, replicate-append-replicate}
-use lib.Seq.{take_at, drop_at}
+use lib.ListN.{drop, replicate, length-replicate, replicate-append-replicate}
+use lib.Seq.{drop_at}
 use Rattle.std.specs.List.{fold, sum_by}
 use Rattle.model.specs.declared.Rounding.{Rounding}
 use Rattle.model.specs.Scale.{S, quotient}

@@ -18,11 +18,8 @@ pub fn ruin_weight(severity: &[u32], tail: u32, level: usize) -> u64
     requires { total severity.now + tail ≤ S }
     ensures { result ≡ ruin_weight severity.now tail level }
 {
-    let listed: u64 = severity
-        .iter()
-        .skip(level.saturating_sub(1))
-        .map(|f| u64::from(*f))
-        .sum();
+    let from = level.saturating_sub(1).min(severity.len());
+    let listed: u64 = severity[from..].iter().map(|f| u64::from(*f)).sum();
     u64::from(tail) + listed
 }
 

@@ -13,6 +13,7 @@ use borrow.Author.Tests.{lt-ltb, le-ltb}
 use Rattle.model.specs.declared.Question.{Question}
 use Rattle.model.specs.Limits.{small_income}
 use Rattle.model.specs.Scale.{S}
+use Rattle.model.specs.Sums.{one_to, any}
 use Rattle.model.specs.Plan.{nth}
 use Rattle.model.specs.MonthRule.{rule_of, opening_allowed}
 use Rattle.model.proofs.Month.{scale_positive}
@@ -30,7 +31,7 @@ passes P =
     (below_or_not P S)
 
 -- the test of a claim's size, as the definition has it and by the place of its weight
-abbrev claim_test : Question → List ℕ → ℕ → (ℕ → ℕ → Bool) → ℕ → ℕ → ℕ → Bool
+abbrev pub claim_test : Question → List ℕ → ℕ → (ℕ → ℕ → Bool) → ℕ → ℕ → ℕ → Bool
 claim_test q F P next fewer s x = ltb 0 (P * nth F x) && next fewer (s + small_income - x)
 
 abbrev pub claim_passes : List ℕ → ℕ → (ℕ → ℕ → Bool) → ℕ → ℕ → ℕ → Bool
@@ -73,6 +74,15 @@ module _
         rw (← er, ← es, ← ef)
         (ap₂ (λ (a b : Bool). a || b) quiet (none_to most (claim_test q F P next fewer s) (λ i l. test_is q F P next fewer s i ∙ claims i l)))
 
+-- the branches of a month, from what was found
+pub branches_are :
+    (q : Question) (F : List ℕ) (P : ℕ) (next : ℕ → ℕ → Bool) (k s most range fewer : ℕ) (may here quiet found : Bool) →
+    may ≡ ltb 0 ((S - P) * S) → here ≡ next k (s + small_income) → quiet ≡ may && here →
+    range ≡ min s (length F) → most ≡ sizes_followed ((rule_of q).after_claim k) range → fewer ≡ left_after ((rule_of q).after_claim k) →
+    found ≡ quiet || any (claim_test q F P next fewer s) (one_to most) → found ≡ branches q F P next k s
+unfolding branches
+branches_are q F P next k s most range fewer may here quiet found em eh eq er es ef e = rw (← em, ← eh, ← eq, ← er, ← es, ← ef) e
+
 -- the months after the first, as they are lent
 abbrev pub onward : Question → List ℕ → ℕ → List ℕ → ℕ → ℕ → ℕ → ℕ → Bool
 onward q F t Ps left level = leads q F (t + 1) (take (length Ps - 1) (drop 1 Ps)) left level
@@ -86,6 +96,13 @@ first_month q F t Ps left level k s months =
     let whole : leads q F t Ps left level k s ≡ leads q F t (get_or Ps 0 0 ∷ take (length Ps - 1) (drop 1 Ps)) left level k s = ap (λ (Qs : List ℕ). leads q F t Qs left level k s) (first_and_rest Ps months) in
     whole
     ∙ sym (ap (λ (n : ℕ). node_allowed q t s && branches q F (get_or Ps 0 0) (leads q F n (take (length Ps - 1) (drop 1 Ps)) left level) k s) (add-one t))
+
+pub leads_is :
+    (q : Question) (F : List ℕ) (t : ℕ) (Ps : List ℕ) (left level k s : ℕ) (allowed found r : Bool) → 0 < length Ps → allowed ≡ node_allowed q t s →
+    found ≡ branches q F (get_or Ps 0 0) (leads q F (t + 1) (take (length Ps - 1) (drop 1 Ps)) left level) k s → r ≡ allowed && found →
+    r ≡ leads q F t Ps left level k s
+leads_is q F t Ps left level k s allowed found r months ea ef er =
+    er ∙ ap₂ (λ (a b : Bool). a && b) ea ef ∙ sym (first_month q F t Ps left level k s months)
 
 -- a node that is not followed leads nowhere, and another where its branches lead
 pub not_followed :

@@ -96,11 +96,6 @@ returns c =
     let none = sym c.in_ok-check_count.ensures in
     let counted = count_is (goal.at.returns c).After-from-count in
     let weights = c.read_weights-weights.ensures in
-    record {
-      number =
-          number_as _ none _ counted _ p.ensures.number refl _ _ p.ensures.read _ _ c.blank-row.ensures.sized p.ensures.memory c.read_plans.auto.row _ weights.read
-          weights.sized _ c.in_ok-check_mixture.ensures;
-      read =
-          read_as _ none _ counted _ p.ensures.number refl _ _ p.ensures.read _ _ c.blank-row.ensures.sized p.ensures.memory c.read_plans.auto.row _ weights.read weights.sized
-          (sym c.in_ok-check_mixture.ensures);
-    }
+    let both = read_as _ none _ counted _ p.ensures.number refl _ _ p.ensures.read _ _ c.blank-row.ensures.sized p.ensures.memory c.read_plans.auto.row _ weights.read weights.sized _
+    c.in_ok-check_mixture.ensures in
+    record { number = both.0; read = both.1 refl }
